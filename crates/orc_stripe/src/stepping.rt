@@ -24,19 +24,23 @@ impl<'a> RowCursor<'a> {
     ///
     /// Refusals: those of `StripeView::rows`, and `Failed` after each of them.
     pub fn next(&mut self) -> Result<Option<Row<'a>>, StripeFault>
-        // The first of the rows that the cursor stands for is answered, and the others are left; or
-        // None where there are none, unless memory is refused.
+        // If rows are the cursor's remaining rows, then `next` returns the first of them and leaves the others as its
+        // remaining rows, or returns `None` if there are none, or fails with `OutOfMemory`. Conversely, a returned row
+        // and the rows that remain after it were the remaining rows before the call, and `None` is returned only if the
+        // cursor had no rows left.
         ensures found { IfOk result (Gave self.old self.new) }
         ensures only { (rows : List Cell) → StandsFor self.old rows
             → MatchResult result (Gives rows self.new) (λ fault. fault ≡ OutOfMemory) }
-        // A row that is answered is one fewer to come.
+        // The number of rows that are still to come falls by one if a row is returned, and stays if `None` is returned.
         ensures fewer { IfOk result (CountsDown self.old self.new) }
-        // A fault that is met in the streams after an answer was met before it.
+        // If `next` doesn't fail and the cursor's streams, read for the rows still to come, have a fault after the
+        // call, then the streams had this fault before the call.
         ensures before { OnOk result ((f : Fault) → MeetsFault self.new f → MeetsFault self.old f) }
-        // A refusal but want of memory and Failed is a fault of what is left of the streams, which
-        // are to give as many rows as are still to come.
+        // If `next` fails with an error other than `OutOfMemory` and `Failed`, then the cursor's streams, read for the
+        // rows still to come, had this fault before the call.
         ensures fault { IfErr result (λ fault. fault ≢ OutOfMemory → fault ≢ Failed → MeetsFault self.old fault) }
-        // From a refusal on the cursor answers Failed, and not before.
+        // If the cursor has failed before, then `next` fails with `Failed`. `Failed` is returned in no other case.
+        // After an error the cursor has failed, and after a row or `None` it has not.
         ensures failed { HasRefused self.old → result ≡ Err Failed }
         ensures first { IfErr result (λ fault. fault ≡ Failed → HasRefused self.old) }
         ensures after { OnErr result (HasRefused self.new) }

@@ -76,20 +76,25 @@ impl<'a> StripeView<'a> {
         stride: u32,
         bytes: &'a [u8],
     ) -> Result<StripeView<'a>, StripeFault>
-        // What is opened is a stripe with the footer that the view keeps: the bytes are as many as
-        // the three lengths, and its directory and encodings are accepted.
+        // The bytes of a returned view are a stripe with the footer that the view keeps: `bytes` is as long as the
+        // three lengths in `info` together, the bytes after the index and the data read as this footer, its streams are
+        // a valid directory, and it has exactly one encoding for each column, which the column's type can have.
         ensures found { IfOk result (λ view. HasFooter schema.now info bytes.now view.footer) }
-        // The view keeps the schema, the record, the stride and the bytes.
+        // A returned view keeps `schema`, `info`, `stride` and `bytes`.
         ensures same { IfOk result (λ view. (view.schema ≡ schema.now)
             × (view.info ≡ info)
             × (view.stride ≡ stride)
             × (view.bytes ≡ bytes.now)) }
-        // Where the bytes have a footer that is accepted, they are opened with it, unless memory is
-        // refused.
+        // If `bytes` is as long as the three lengths in `info` together and the bytes after the index and the data read
+        // as a footer with a valid directory and with exactly one encoding for each column, which the column's type can
+        // have, then `open` returns a view with this footer, or fails with `OutOfMemory`.
         ensures only { (footer : StripeFooter) → HasFooter schema.now info bytes.now footer
             → MatchResult result (λ view. view.footer ≡ footer) (λ fault. fault ≡ OutOfMemory) }
-        // A refusal stands: BadDirectory, BadEncoding with the first column that is wrong, or Wire
-        // with the footer's own fault; no other is answered but want of memory.
+        // An error is `BadDirectory`, `BadEncoding`, `Wire` or `OutOfMemory`. `BadDirectory` comes only if `bytes`
+        // isn't as long as the three lengths in `info` together, or the footer reads and its streams are no valid
+        // directory. `BadEncoding` comes only if the footer reads, with the number of the first column whose encoding
+        // is missing or is one that the column's type can't have, or of the first encoding that has no column. `Wire`
+        // names a fault that the footer's bytes have.
         ensures fault { IfErr result (OpenFault schema.now info bytes.now) }
     {
         let Some(room) = info.index_length.checked_add(info.data_length) else {
@@ -152,14 +157,16 @@ impl<'a> StripeView<'a> {
     /// LENGTHs that come first are more than the bytes, or all of them are less. `TooMany`: those
     /// that come first are more than 2,147,483,647.
     pub fn rows(&self, alloc: Global) -> Result<Vec<Row<'a>>, StripeFault>
-        // The rows that are answered are the stripe's: as many as its record says, they fit the
-        // schema, and each column's streams spell its cells in them, and nothing more.
+        // The view's bytes are a stripe of the returned rows: they have a valid footer, the number of rows is the one
+        // in the stripe's record, each row fits the schema, no column has more than 2,147,483,647 cells, and each
+        // column's streams spell exactly the column's cells.
         ensures found { IfOk result (λ rows. IsStripe self.now.schema self.now.info self.now.bytes (views rows.items)) }
-        // Where the bytes are a stripe of rows, these are answered, unless memory is refused.
+        // If the view's bytes are a stripe of some rows, then `rows` returns these rows, or fails with `OutOfMemory`.
         ensures only { (rows : List Cell) → IsStripe self.now.schema self.now.info self.now.bytes rows
             → MatchResult result (λ answered. views answered.items ≡ rows) (λ fault. fault ≡ OutOfMemory) }
-        // A refusal but want of memory stands: there are no rows, and it is TooMany(0) for 2^31
-        // rows or more, or a fault that a column of the schema has in its streams.
+        // If `rows` fails with an error other than `OutOfMemory`, then the columns' streams don't spell as many rows of
+        // the schema as the stripe's record says, and the error is `TooMany(0)` for 2^31 rows or more, or a fault that
+        // a column of the schema has in its streams.
         ensures fault { IfErr result (λ cause. cause ≢ OutOfMemory
             → RowsFault self.now.schema (columns_of self.now.footer self.now.bytes)
             self.now.info.number_of_rows cause) }
@@ -179,21 +186,24 @@ impl<'a> StripeView<'a> {
     ///
     /// Refusals: those of `rows`; where the rows are more than 2,147,483,647, `TooMany(0)`.
     pub fn cursor(&self, alloc: Global) -> Result<RowCursor<'a>, StripeFault>
-        // The rows that a cursor stands for are the stripe's.
+        // If rows are the remaining rows of a returned cursor, then the view's bytes are a stripe of these rows.
         ensures found { IfOk result (λ cursor. (rows : List Cell) → StandsFor cursor rows
             → IsStripe self.now.schema self.now.info self.now.bytes rows) }
-        // Where the bytes are a stripe of rows, the cursor stands for these, unless memory is
-        // refused.
+        // If the view's bytes are a stripe of some rows, then `cursor` returns a cursor whose remaining rows are these
+        // rows, or fails with `OutOfMemory`.
         ensures only { (rows : List Cell) → IsStripe self.now.schema self.now.info self.now.bytes rows
             → MatchResult result (λ cursor. StandsFor cursor rows) (λ fault. fault ≡ OutOfMemory) }
-        // Its rows are of the schema.
+        // The row type of a returned cursor is the view's schema.
         ensures of_type { IfOk result (λ cursor. row_type cursor ≡ self.now.schema) }
-        // A cursor wasn't refused yet.
+        // A returned cursor has not failed yet.
         ensures going { IfOk result IsGoing }
-        // What a cursor meets in its streams later is a fault of the stripe's columns.
+        // If the streams of a returned cursor, read for the rows still to come, have a fault, then a column of the
+        // schema has this fault in the stripe's streams.
         ensures meets { IfOk result (λ cursor. (f : Fault) → MeetsFault cursor f
             → HasFault self.now.schema (columns_of self.now.footer self.now.bytes) self.now.info.number_of_rows f) }
-        // A refusal but want of memory stands as one of `rows` does.
+        // If `cursor` fails with an error other than `OutOfMemory`, then the columns' streams don't spell as many rows
+        // of the schema as the stripe's record says, and the error is `TooMany(0)` for 2^31 rows or more, or a fault
+        // that a column of the schema has in its streams.
         ensures fault { IfErr result (λ cause. cause ≢ OutOfMemory
             → RowsFault self.now.schema (columns_of self.now.footer self.now.bytes)
             self.now.info.number_of_rows cause) }

@@ -90,33 +90,46 @@ impl<'a> StripeView<'a> {
     /// at the positions of a column's own entry only where each column has its entry of the group,
     /// too.
     pub fn cursor_at(&self, alloc: Global, group: u64) -> Result<RowCursor<'a>, StripeFault>
-        // Where the group's positions are right, whatever stands before them, the cursor stands for
-        // the rows from `group * stride` on, and want of memory is the only refusal.
+        // If the stripe has the group `group`, each column's row index has an entry for each group, and there are
+        // columns' streams that spell as many rows as the stripe has, in which the positions in the entries of `group`
+        // are right, and which have the encodings and dictionaries of the stripe's streams, their lengths, and their
+        // bytes from the positions on, then `cursor_at` returns a cursor whose remaining rows are these rows from row
+        // `group * stride` on, or fails with `OutOfMemory`. Right positions are those from which a reader goes on after
+        // the column's cells of all rows before the group.
         ensures starts { (x : ℕ → Streams) (rows : List Cell) → StartsGroup self.now x rows group
             → MatchResult result
             (λ cursor. StandsFor cursor (drop (group * self.now.stride) rows))
             (λ fault. fault ≡ OutOfMemory) }
-        // The cursor wasn't refused yet.
+        // A returned cursor has not failed yet.
         ensures going { IfOk result IsGoing }
-        // A cursor is there only where the stripe has the group, and each column an index with as
-        // many entries as groups.
+        // A cursor is returned only if the stride is above 0, the stripe has a row of the number `group * stride`, and
+        // each column has a row index with an entry for each group.
         ensures there { IfOk result (λ _. HasGroup self.now group × HasEntries self.now group) }
-        // It is there only where each column's entry has as many positions as the column's streams,
-        // each of which lies in its stream.
+        // A cursor is returned only if readers of all columns can stand at the positions in the entries of `group`:
+        // each entry has as many positions as its column's streams have, and each position lies in its stream.
         ensures entered { IfOk result (λ _. IsEntered self.now group) }
-        // The rows that it stands for are what stands behind these positions, as many as the stripe
-        // has from the group on.
+        // If rows are the remaining rows of a returned cursor, then the streams spell exactly these rows from the
+        // positions in the entries of `group` on, and these are as many as the stripe has from row `group * stride` on.
         ensures found { IfOk result (λ cursor. (rows : List Cell) → StandsFor cursor rows
             → SpellsFrom self.now group rows) }
-        // Where rows stand behind these positions, it stands for them.
+        // If the streams spell exactly some rows from the positions in the entries of `group` on, as many as the stripe
+        // has from row `group * stride` on, then these rows are the remaining rows of a returned cursor.
         ensures stands { IfOk result (λ cursor. (rows : List Cell) → SpellsFrom self.now group rows
             → StandsFor cursor rows) }
-        // Its rows are of the schema.
+        // The row type of a returned cursor is the view's schema.
         ensures of_type { IfOk result (λ cursor. row_type cursor ≡ self.now.schema) }
-        // What it refuses later is a fault of the streams from these positions on.
+        // If the streams of a returned cursor, read for the rows still to come, have a fault, then the stripe's streams
+        // have this fault when they are read from the positions in the entries of `group` on, for as many rows as the
+        // stripe has from row `group * stride` on.
         ensures meets { IfOk result (λ cursor. (f : Fault) → MeetsFault cursor f → MeetsFrom self.now group f) }
-        // A refusal but want of memory stands: the stripe hasn't the group, a column hasn't its
-        // entry, or each has one and a column isn't entered at its positions.
+        // If `cursor_at` fails with an error other than `OutOfMemory`, then the stripe doesn't have the group `group`
+        // or has too many rows, or a column doesn't have an entry of the group, or each column has one and a column
+        // can't be entered at its entry's positions. The first case gives `NoIndex` of the stripe for the stride 0,
+        // else `TooMany(0)` for 2^31 rows or more, else `BadPosition` of the stripe. The second gives `NoIndex` or
+        // `Wire` for a row index that is missing or doesn't read, and `BadPosition` of the column for another number of
+        // entries than the stripe has groups. The third gives `BadPosition` of the column for another number of
+        // positions than its streams have, or else `BadPosition` or `Run` of one of its streams, or a fault of its
+        // dictionary.
         ensures fault { IfErr result (λ cause. cause ≢ OutOfMemory → GroupFault self.now group cause) }
     {
         let count = self.info.number_of_rows;

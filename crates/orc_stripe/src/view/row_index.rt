@@ -54,17 +54,19 @@ impl<'a> StripeView<'a> {
     /// Refusals: `NoIndex`, of the stripe where the stride is 0, even if there is such a stream, and of the column
     /// where the directory lists none; `Wire`; `OutOfMemory`.
     pub fn index(&self, alloc: Global, column: usize) -> Result<RowIndexMsg, StripeFault>
-        // The message that is answered is the one that the column's ROW_INDEX stream is, and the
-        // stride is above 0.
+        // A returned message is the one that the bytes of the column's ROW_INDEX stream are; the directory lists this
+        // stream, and the stride is above 0.
         ensures found { IfOk result (λ message. (0 < self.now.stride)
             × HasIndex self.now.footer self.now.bytes column message) }
-        // Where the stride is above 0 and the column's ROW_INDEX stream is a message, this is
-        // answered, unless memory is refused.
+        // If the stride is above 0 and the directory lists a ROW_INDEX stream of `column` whose bytes are a message,
+        // then `index` returns this message, or fails with `OutOfMemory`.
         ensures only { (message : IndexMessage) → 0 < self.now.stride
             → HasIndex self.now.footer self.now.bytes column message
             → MatchResult result (λ found. found ≡ message) (λ fault. fault ≡ OutOfMemory) }
-        // A refusal is NoIndex where the stride is 0 or the directory lists no such stream, and
-        // else the fault of its bytes, or want of memory.
+        // An error is `NoIndex`, `Wire` or `OutOfMemory`. `NoIndex` of the stripe comes only if the stride is 0.
+        // `NoIndex` of `column` comes only if the stride is above 0 and the directory lists no ROW_INDEX stream of
+        // `column`. `Wire` comes only if the stride is above 0 and the directory lists this stream, and names a fault
+        // that the stream's bytes have.
         ensures fault { IfErr result (IndexFault self.now column) }
     {
         if self.stride == 0 {
@@ -135,14 +137,18 @@ impl<'a> StripeView<'a> {
     /// column where there are not as many entries as groups of rows; `OutOfMemory`.
     pub fn positions_right(&self, alloc: Global, column: usize) -> Result<Vec<bool>, StripeFault>
         requires { column < width self.now.schema }
-        // Where truth values are answered, the stripe has rows, the column has an index with an
-        // entry for each group of them, and the stride is above 0.
+        // If the schema has `column`, then truth values are returned only if the view's bytes are a stripe of some
+        // rows, the column has a row index with an entry for each group of these rows, and the stride is above 0.
         ensures index { IfOk result (λ _. (rows : List Cell) × (message : IndexMessage)
             × IsStripe self.now.schema self.now.info self.now.bytes rows
             × HasIndex self.now.footer self.now.bytes column message
             × IsWhole self.now (length rows) message × (0 < self.now.stride)) }
-        // Over the stripe's rows, where an index reads, each truth value says whether its entry's
-        // positions are right for the group; memory or the number of entries alone is refused.
+        // If the schema has `column`, the view's bytes are a stripe of some rows, the stride is above 0, and the column
+        // has a row index that reads, then `positions_right` returns one truth value for each entry, or fails with
+        // `OutOfMemory` or with `BadPosition` of `column`. A truth value says whether the entry's positions are right
+        // for its group: whether a reader goes on from them after the column's cells of all rows before the group.
+        // Truth values are returned only if the row index has an entry for each group of the rows, and `BadPosition`
+        // only if it has another number of entries.
         ensures right { (rows : List Cell) (message : IndexMessage)
             → IsStripe self.now.schema self.now.info self.now.bytes rows
             → 0 < self.now.stride
@@ -151,8 +157,13 @@ impl<'a> StripeView<'a> {
             (λ right. IsWhole self.now (length rows) message
             × ArePositionsDecided self.now column rows message right.items)
             (λ fault. (fault ≡ OutOfMemory) ⊎ HasOtherEntries self.now column (length rows) fault) }
-        // A refusal but want of memory is one of the stripe's rows; or there are rows, and it is
-        // one of the index or of its number of entries.
+        // If the schema has `column` and `positions_right` fails with an error other than `OutOfMemory`, then the error
+        // is a fault of the rows, of the column's row index, or of the number of its entries. A fault of the rows comes
+        // only if the columns' streams don't spell as many rows of the schema as the stripe's record says: `TooMany(0)`
+        // for 2^31 rows or more, or a fault that a column of the schema has in its streams. The other faults come only
+        // if the view's bytes are a stripe of some rows: `NoIndex` for the stride 0 or a missing row index, `Wire` for
+        // a row index that doesn't read, and `BadPosition` of `column` for another number of entries than the rows have
+        // groups.
         ensures fault { IfErr result (λ cause. cause ≢ OutOfMemory
             → RowsFault self.now.schema (columns_of self.now.footer self.now.bytes) self.now.info.number_of_rows cause
             ⊎ ((rows : List Cell) × IsStripe self.now.schema self.now.info self.now.bytes rows
