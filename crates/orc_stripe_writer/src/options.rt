@@ -23,12 +23,11 @@ impl Options {
     ///
     /// `None` where `stripe_rows` is 0 or more than that.
     pub fn new(rle: Rle, stride: u32, stripe_rows: u32) -> Option<Options>
-        // Options that are made have the version of runs, the stride and the rows of a stripe that
-        // were asked for.
+        // Returned options have the `rle`, the `stride` and the `stripe_rows` that `new` was given.
         ensures some { IfSome result (λ options. (options.rle ≡ rle)
             × (options.stride ≡ stride)
             × (options.stripe_rows ≡ stripe_rows)) }
-        // They are refused only where a stripe would have no rows, or more than 2,147,483,647.
+        // `None` is returned only if `stripe_rows` is 0 or more than 2,147,483,647.
         ensures none { IfNone result ((stripe_rows ≡ 0) ⊎ (cell_limit ≤ stripe_rows)) }
     {
         if stripe_rows == 0 || stripe_rows as u64 >= CELL_LIMIT {
