@@ -25,10 +25,13 @@ use std::alloc::Global;
 pub fn of_cells(alloc: Global, kind: StatKind, cells: &[Lent<'_, '_>]) -> Result<Stat, StatFault>
     requires kind { All (λ c. is_of kind c ≡ true) (lent_cells cells.now) }
     requires most { length cells.now ≤ 2 ^ 62 }
-    // Of cells of the kind, 2^62 at most, it counts those not null, tells whether one is null, and
-    // has the kind's least, greatest, count of true, and exact total where 64 bits hold it.
+    // If each cell is one of a column of `kind` and there are at most 2^62 cells, then a returned statistic is that of
+    // the cells. It has the number of cells that aren't null, whether a cell is null, and of the values what `kind`
+    // counts: the least and the greatest, how many are true, and the exact total. A part is unknown if there are no
+    // values, and a total also if it doesn't fit 64 bits.
     ensures found { IfOk result (λ s. s ≡ stat kind (lent_cells cells.now)) }
-    // The only refusal is want of memory, for STRING alone.
+    // If each cell is one of a column of `kind` and there are at most 2^62 cells, then the only error is `OutOfMemory`,
+    // which comes only for the kind of STRING columns.
     ensures fault { IfErr result (λ fault. (fault ≡ OutOfMemory) × (kind ≡ text_kind)) }
 {
     match kind {
@@ -48,11 +51,14 @@ pub fn of_cells(alloc: Global, kind: StatKind, cells: &[Lent<'_, '_>]) -> Result
 /// comes for texts alone.
 pub fn join_all(alloc: Global, kind: StatKind, stats: &[Stat]) -> Result<Stat, StatFault>
     requires { All (λ s. body_is_of kind s.body ≡ true) stats.now }
-    // Where the bodies are of the kind, counts add up, null is there where one has it, unknown
-    // where one may, and a part is joined where all with values know it and what comes of it fits.
+    // If each statistic's body is of `kind`, then a returned statistic is the joined one. Its count is the sum of the
+    // counts. It has a null if a statistic has one, else this is unknown if it is unknown in a statistic, else it has
+    // none. A part of its body is that of all statistics that have values: the least of the least, the greatest of the
+    // greatest, the sum of the others. A part is unknown if no statistic has values, if it is unknown in one that has,
+    // if a total doesn't fit 64 bits, or if more than 2^62 values are true.
     ensures found { IfOk result (λ s. s ≡ joined kind stats.now) }
-    // CountTooLarge comes exactly where the counts add up past 2^62, and want of memory for STRING
-    // alone.
+    // If each statistic's body is of `kind`, then `CountTooLarge` is returned exactly if the counts add up to more than
+    // 2^62. `OutOfMemory` comes only for the kind of STRING columns.
     ensures most { OnOk result (sum_by (λ s. s.count) stats.now ≤ 2 ^ 62) }
     ensures fault { IfErr result (JoinFault (kind ≡ text_kind) stats.now) }
 {

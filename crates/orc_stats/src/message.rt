@@ -26,11 +26,13 @@ impl Stat {
     /// Refusals: `CountTooLarge` exactly where the values, or among truth values the true ones, are
     /// more than 2^62, and `OutOfMemory`, which comes for texts alone.
     pub fn read(alloc: Global, kind: StatKind, message: &ColumnStats) -> Result<Stat, StatFault>
-        // What is read is the message's count and null, and what the record of the column's kind
-        // says; where it counts no values, nothing is known of them.
+        // A returned statistic has the message's `number_of_values` as its count, the message's `has_null`, and the
+        // parts that the record of `kind` stores. If the message counts no values, each part is unknown, whatever the
+        // record stores.
         ensures found { IfOk result (λ s. s ≡ stat_read kind message.now) }
-        // CountTooLarge comes exactly where the values, or for BOOLEAN with a value the true ones,
-        // are more than 2^62, and want of memory for STRING alone.
+        // `CountTooLarge` is returned exactly if the message counts more than 2^62 values, or if `kind` is that of
+        // BOOLEAN columns, the message counts a value, and its record counts more than 2^62 true ones. `OutOfMemory`
+        // comes only for the kind of STRING columns.
         ensures limits { IfOk result (λ s. in_limits s ≡ true) }
         ensures fault { IfErr result (MessageFault kind message.now) }
     {
@@ -58,10 +60,11 @@ impl Stat {
     /// Refusal: `OutOfMemory`, only where a text is known, or how many values are true.
     #[inline(always)]
     pub fn put(&self, alloc: Global) -> Result<ColumnStats, StatFault>
-        // What is put has the count, the null and the record of the statistic's kind, where a part
-        // is known, and no other record.
+        // A returned message has the statistic's count and `nulls`, the record of the statistic's kind if a part is
+        // known, and no other record.
         ensures put { IfOk result (λ m. m ≡ message_of self.now) }
-        // The only refusal is want of memory, where a text or a count of true is known.
+        // The only error is `OutOfMemory`, which comes only if a least or a greatest text or a number of true values is
+        // known.
         ensures fault { IfErr result (λ fault. (fault ≡ OutOfMemory) × (takes_memory self.now.body ≡ true)) }
     {
         let mut message = ColumnStats {

@@ -48,46 +48,47 @@ pub trait Tally<'r>: Sized + Drop {
 
     /// Of nothing.
     fn unit() -> Self
-        // The tally is that of nothing.
+        // The returned tally has counted nothing.
         ensures { kept result ≡ none_kept measure };
 
     /// Counts one cell more, as its own column says it.
     fn add_own(&mut self, own: Own<'r>)
         requires kind { is_of kind (own_cell own) ≡ true }
         requires most { (kept self.old).count + bit (is_value (own_cell own)) ≤ 2 ^ 62 }
-        // Where the cell is of the kind, and the values with it are 2^62 at most, it is counted,
-        // too.
+        // If the cell is one of a column of the tally's kind and the tally counts at most 2^62 values with it, then the
+        // tally has counted the cell `own` in addition to what it had counted before.
         ensures { kept self.new ≡ together measure (kept self.old) (cell_kept measure (own_cell own.entry)) };
 
     /// Of what a statistic is of.
     fn of_stat(stat: &'r Stat) -> Self
         requires kind { body_is_of kind stat.now.body ≡ true }
         requires most { stat.now.count ≤ 2 ^ 62 }
-        // Where the statistic is of the kind, with 2^62 values at most, the tally is that of what
-        // it is of.
+        // If the body of `stat` is of the tally's kind and `stat` counts at most 2^62 values, then the returned tally
+        // has counted what `stat` is the statistic of.
         ensures { kept result ≡ stat_kept measure stat.now };
 
     /// Counts what another counted, too.
     fn join(&mut self, other: &Self)
         requires { (kept self.old).count + (kept other.now).count ≤ 2 ^ 62 }
-        // Where both have 2^62 values at most together, the tally becomes the join of both.
+        // If both tallies together count at most 2^62 values, then the tally has counted what `other` has counted in
+        // addition to what it had counted before.
         ensures { kept self.new ≡ together measure (kept self.old) (kept other.now) };
 
     /// The statistic of all that was counted.
     ///
     /// Refusal: `OutOfMemory`, where a text has to be copied.
     fn close(&self, alloc: Global) -> Result<Stat, StatFault>
-        // The statistic is that of all that was counted.
+        // A returned statistic is that of all that the tally has counted.
         ensures found { IfOk result (λ s. s ≡ stat_of_kept measure (kept self.now)) }
-        // The only refusal is want of memory, where the kind's statistic takes some.
+        // The only error is `OutOfMemory`, which comes only if the statistics of the tally's kind take memory.
         ensures fault { IfErr result (λ fault. (fault ≡ OutOfMemory) × TakesMemory) };
 
     /// Counts one cell more.
     final fn add(&mut self, cell: &'r Row<'_>)
         requires kind { is_of kind (view cell.now) ≡ true }
         requires most { (kept self.old).count + bit (is_value (view cell.now)) ≤ 2 ^ 62 }
-        // Where the cell is of the kind, and the values with it are 2^62 at most, it is counted,
-        // too.
+        // If the cell is one of a column of the tally's kind and the tally counts at most 2^62 values with it, then the
+        // tally has counted `cell` in addition to what it had counted before.
         ensures { kept self.new ≡ together measure (kept self.old) (cell_kept measure (view cell.now)) }
     {
         self.add_own(own_of(cell));
@@ -97,9 +98,11 @@ pub trait Tally<'r>: Sized + Drop {
     final fn of_cells(alloc: Global, cells: &'r [Lent<'r, '_>]) -> Result<Stat, StatFault>
         requires kind { All (λ c. is_of kind c ≡ true) (lent_cells cells.now) }
         requires most { length cells.now ≤ 2 ^ 62 }
-        // Where the cells are of the kind, 2^62 at most, the answer is their statistic.
+        // If each cell is one of a column of the tally's kind and there are at most 2^62 cells, then a returned
+        // statistic is that of the cells.
         ensures found { IfOk result (λ s. s ≡ stat kind (lent_cells cells.now)) }
-        // The only refusal is want of memory, where the kind's statistic takes some.
+        // If each cell is one of a column of the tally's kind and there are at most 2^62 cells, then the only error is
+        // `OutOfMemory`, which comes only if the statistics of the tally's kind take memory.
         ensures fault { IfErr result (λ fault. (fault ≡ OutOfMemory) × TakesMemory) }
     {
         let mut tally = Self::unit();
@@ -112,10 +115,10 @@ pub trait Tally<'r>: Sized + Drop {
     /// The statistic of what several statistics are of.
     final fn of_stats(alloc: Global, stats: &'r [Stat]) -> Result<Stat, StatFault>
         requires { All (λ s. body_is_of kind s.body ≡ true) stats.now }
-        // Where the bodies are of the kind, the answer is what the statistics are joined.
+        // If each statistic's body is of the tally's kind, then a returned statistic is the one that `stats` join to.
         ensures found { IfOk result (λ s. s ≡ joined kind stats.now) }
-        // CountTooLarge comes exactly where the counts add up past 2^62, and want of memory only
-        // where the kind's statistic takes some.
+        // If each statistic's body is of the tally's kind, then `CountTooLarge` is returned exactly if the counts add
+        // up to more than 2^62. `OutOfMemory` comes only if the statistics of the tally's kind take memory.
         ensures most { OnOk result (sum_by (λ s. s.count) stats.now ≤ 2 ^ 62) }
         ensures fault { IfErr result (JoinFault TakesMemory stats.now) }
     {
