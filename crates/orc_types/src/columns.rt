@@ -194,9 +194,9 @@ pub fn cells<'r, 'a>(
     rows: &'r [Row<'a>],
 ) -> Result<Vec<&'r Row<'a>>, TypeFault>
     requires { column < width schema.now }
-    // Where the schema has the column, exactly the column's cells are answered, in order.
+    // If the schema has `column`, then the returned cells are exactly the column's cells in `rows`, in order.
     ensures found { IfOk result (λ found. lent_views found.items ≡ spec.cells schema.now column (views rows.now)) }
-    // The one refusal is want of memory.
+    // If the schema has `column`, then the only error is `OutOfMemory`.
     ensures fault { IfErr result (λ fault. fault ≡ OutOfMemory) }
 {
     let mut found = Vec::new(alloc);

@@ -9,8 +9,8 @@ use orc_values::{Row, value_fits};
 /// Whether the row is one of the schema: it has the schema's shape, any part may be null, and
 /// numbers are in their kind's range. Each text is UTF-8, as every `str` is.
 pub fn fits(schema: &Schema, row: &Row<'_>) -> bool
-    // The answer says exactly whether the row has the schema's shape and its numbers their kinds'
-    // range; a text that fits is UTF-8.
+    // The answer is whether the row fits the schema: it has the schema's shape, in which any part may be null, its
+    // numbers and dates are in their kind's range, and its texts are UTF-8.
     ensures { result ≡ spec.fits (view row.now) schema.now }
 {
     match row {

@@ -26,12 +26,13 @@ use std::alloc::{AllocError, Global};
 /// Refusals: `DuplicateField` where some struct of the schema names a field twice; `OutOfMemory`.
 pub fn row_to_json(alloc: Global, schema: &Schema, row: &Row<'_>) -> Result<Json, JsonFault>
     requires { fits (view row.now) schema.now ≡ true }
-    // Where the row fits, what is printed is its JSON, and spells the row, so it reads back.
+    // If the row fits the schema, then the returned JSON is the row's JSON, and it spells the row under the schema.
     ensures found { IfOk result (λ json. json_view json ≡ spec.json_of schema.now (view row.now)) }
     ensures again { IfOk result (λ json. Spells schema.now (json_view json) (view row.now)) }
-    // With a field named twice, anywhere in the schema, nothing is printed.
+    // If the row fits the schema, then JSON is returned only if no struct of the schema names a field twice.
     ensures distinct { IfOk result (λ json. spec_distinct schema.now ≡ true) }
-    // Where the row fits, printing is refused only for a field named twice, or for memory.
+    // If the row fits the schema and the error isn't `OutOfMemory`, then the error is `DuplicateField`, and a struct of
+    // the schema names a field twice.
     ensures fault { IfErr result (λ e. e ≢ fault.OutOfMemory
         → (e ≡ fault.DuplicateField) × (spec_distinct schema.now ≡ false)) }
 {

@@ -31,25 +31,25 @@ use std::alloc::Global;
 /// `Range` for a number out of its kind's range; `UnknownField` for a key that no field has;
 /// `BadDate` and `BadHex` for a string that is none; `OutOfMemory`.
 pub fn row_from_json(alloc: Global, schema: &Schema, json: &Json) -> Result<Row<'static>, JsonFault>
-    // What is read is a row that the JSON value spells.
+    // The JSON value spells a returned row under the schema.
     ensures found { IfOk result (λ row. Spells schema.now (json_view json.now) (view row)) }
-    // Where no struct names a field twice, JSON that spells a row is read as it, or memory is
-    // refused.
+    // If no struct of the schema names a field twice and the JSON value spells a row under the schema, then
+    // `row_from_json` returns this row, or fails with `OutOfMemory`.
     ensures only { (row : Cell)
         → spec_distinct schema.now ≡ true
         → Spells schema.now (json_view json.now) row
         → MatchResult result (λ found. view found ≡ row) (λ e. e ≡ fault.OutOfMemory) }
-    // What is read fits the schema.
+    // A returned row fits the schema.
     ensures fits { IfOk result (λ row. fits (view row) schema.now ≡ true) }
-    // With a field named twice, anywhere in the schema, nothing is read.
+    // A row is returned only if no struct of the schema names a field twice.
     ensures distinct { IfOk result (λ row. spec_distinct schema.now ≡ true) }
 
-    // A refusal other than for memory or for a field named twice is true of the JSON value, or of
-    // one in it.
+    // If the error is neither `OutOfMemory` nor `DuplicateField`, then the JSON value, or a value inside it for which
+    // the schema has a type, has this fault.
     ensures fault { IfErr result (λ e. e ≢ fault.OutOfMemory
         → e ≢ fault.DuplicateField
         → Somewhere (FaultAt e) schema.now (json_view json.now)) }
-    // DuplicateField is answered only where a struct of the schema names a field twice.
+    // If the error is `DuplicateField`, then a struct of the schema names a field twice.
     ensures duplicate { IfErr result (λ e. e ≡ fault.DuplicateField → spec_distinct schema.now ≡ false) }
 {
     if !schema.has_distinct_names() {

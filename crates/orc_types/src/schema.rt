@@ -55,16 +55,21 @@ impl Schema {
     /// UTF-8, and `OutOfMemory`. Which of several is answered is open.
     pub fn from_types(alloc: Global, types: &[TypeMsg]) -> Result<Schema, TypeFault>
         requires { AllKept types.now }
-        // Where kept bytes are fields above 3, what is answered is the tree whose types these are,
-        // within the limits.
+        // If each type keeps only fields with numbers above 3, then `types` are the types of a returned schema, in
+        // pre-order, and the schema is within the limits.
         ensures found { IfOk result (λ found. HasTypes found types.now) }
-        // Types of such a tree are answered as it, or memory is refused.
+        // If each type keeps only fields with numbers above 3 and `types` are the types of a schema within the limits,
+        // in pre-order, then `from_types` returns this schema, or fails with `OutOfMemory`.
         ensures only { (s : Shape)
             → HasTypes s types.now
             → MatchResult result (λ found. found ≡ s) (λ fault. fault ≡ OutOfMemory) }
 
-        // A refusal is true of the types, or is want of memory; TooDeep names a way down of 32
-        // steps, each from a LIST, a MAP or a STRUCT to a type that is there.
+        // If each type keeps only fields with numbers above 3, then an error is `OutOfMemory` or is true of `types`.
+        // `UnsupportedKind` names a kind that a type has and that no column can have. `BadTree` comes only if all kinds
+        // are known and yet `types` aren't the types of any tree, in pre-order. `TooDeep` comes only if 32 steps lead
+        // down from type 0, each from a LIST, a MAP or a STRUCT to one of its subtypes, which comes later in `types`.
+        // `TooMany` comes only for more than 4,096 types. `RootNotStruct` comes only if there is no type, or type 0 is
+        // no STRUCT. `BadText` has the place 0 and comes only if a field of a STRUCT has a name that isn't UTF-8.
         ensures fault { IfErr result (TypesFault types.now) }
     {
         let tree = tree_of(alloc, types)?;
@@ -93,7 +98,9 @@ impl Schema {
 
     /// The types, in pre-order.
     pub fn types(&self) -> &[TypeMsg]
-        // The schema's types are lent, in pre-order, and it is within the limits.
+        // The returned types are the schema's, in pre-order, and the schema is within the limits: its root is a STRUCT,
+        // its names are UTF-8, it has at most 32 levels and 4,096 types, and each type keeps only fields with numbers
+        // above 3.
         ensures same { result.now ≡ spec_types self.now 0 }
         ensures schema { IsSchema self.now }
     {

@@ -23,9 +23,9 @@ impl Schema {
     ///
     /// Refusal: `OutOfMemory`.
     pub fn text(&self, alloc: Global) -> Result<String, TypeFault>
-        // Unless memory is refused, the text says the schema's kinds and names.
+        // A returned text is the text of the schema's kinds and names.
         ensures found { IfOk result (λ text. string_bytes text ≡ spec.text self.now) }
-        // The one refusal is want of memory.
+        // The only error is `OutOfMemory`.
         ensures fault { IfErr result (λ fault. fault ≡ OutOfMemory) }
     {
         let mut text = String::new(alloc);
@@ -40,15 +40,22 @@ impl Schema {
     /// `RootNotStruct` of another type's text, `TooMany` above 4,096 types, and `OutOfMemory`. Which
     /// of several is answered is open.
     pub fn parse(alloc: Global, text: &str) -> Result<Schema, TypeFault>
-        // What a text is read as is a schema within the limits whose text it is, with plain names
-        // and nothing kept.
+        // A returned schema is within the limits, `text` is its text, each of its names is made of one or more ASCII
+        // letters, digits and underscores, and its types keep no other fields.
         ensures found { IfOk result (λ found. HasText found text.now) }
-        // The text of such a schema is read as it, or memory is refused.
+        // If `text` is the text of a schema within the limits, each of whose names is made of one or more ASCII
+        // letters, digits and underscores, and whose types keep no other fields, then `parse` returns this schema, or
+        // fails with `OutOfMemory`.
         ensures only { (s : Shape)
             → HasText s text.now
             → MatchResult result (λ found. found ≡ s) (λ fault. fault ≡ OutOfMemory) }
 
-        // A refusal is true of the text, or is want of memory.
+        // An error is `TooDeep`, `TooMany`, `RootNotStruct`, `BadText` or `OutOfMemory`. `TooDeep` comes only if `text`
+        // begins with 32 types that are open, one inside the other. `TooMany` comes only if `text` is the text of a
+        // type that has more than 4,096 types in all. `RootNotStruct` comes only if `text` is the text of a type other
+        // than a STRUCT. `BadText` has a place of at most the length of `text`, and comes only if `text` isn't the text
+        // of any type. The names of these types are made of one or more ASCII letters, digits and underscores, and the
+        // types keep no other fields.
         ensures fault { IfErr result (TextFault text.now) }
     {
         let tree = whole_tree(alloc, text.as_bytes())?;
