@@ -199,22 +199,25 @@ pub fn read_capped_tail<S: Source>(
 /// The tests come in this order, and the fault is the first one's that fails: both ends and the postscript, the
 /// footer, the metadata, the limits and the stripes' places. `SourceFailed` and `OutOfMemory` may come instead.
 pub fn read_tail<S: Source>(alloc: Global, source: &mut S) -> Result<Tail, FileFault>
-    // Where the source tells its bytes, the tail that is answered is the one that they have.
+    // If the source's bytes are known, then a returned tail is the tail of these bytes: they pass each test of a tail,
+    // and the tests find this tail.
     ensures found { IfOk result (λ tail. IfSome (S.told source.old) (λ bytes. IsTail bytes tail)) }
-    // The tail is within the limits and its stripes end within the source, also where this tells
-    // nothing.
+    // A returned tail is within the limits and its stripes end within the source, whether or not the source's bytes are
+    // known.
     ensures limits { IfOk result (λ tail. IsWithinLimits tail) }
     ensures within { IfOk result (λ tail. AllBefore (S.size source.old) tail.stripes) }
 
-    // Where the source tells its bytes, a refusal names the first test that they fail, or it is
-    // want of memory or SourceFailed.
+    // If the source's bytes are known, then an error is `OutOfMemory`, `SourceFailed`, or the fault of the first test
+    // of a tail that the bytes fail.
     ensures fault { IfErr result (λ fault. ReadFault (S.told source.old) fault (λ bytes. OpenFault bytes fault)) }
-    // Over any source a refusal is SourceFailed, or it is one that a tail may have and no read
-    // failed.
+    // An error is `SourceFailed`, or the source's count of failures is unchanged and the error is `NotOrc`,
+    // `BadPostscript`, `Compressed` with a kind other than 0, `Encrypted`, `BadLengths`, `BadFooter`, `BadMetadata`,
+    // `BadTypes` with a fault other than `OutOfMemory`, `BadStripe` with a number below 65,536, `RowCount`, `Limit` or
+    // `OutOfMemory`.
     ensures unfailed { IfErr result (λ fault. (fault ≡ SourceFailed)
         ⊎ (IsOfTail fault × (S.failures source.new ≡ S.failures source.old))) }
-    // After each answer the source has the length that it had, and tells what it told. Its count of
-    // failures rises with SourceFailed, and stands where a tail is answered or memory is refused.
+    // The call changes neither the source's length nor what is known of its bytes. The source's count of failures rises
+    // if the error is `SourceFailed`, and is unchanged if a tail is returned or the error is `OutOfMemory`.
     ensures source { LeavesSource S.told S.size S.failures SourceFailed (λ fault. fault ≡ OutOfMemory)
         source.old source.new result }
 {

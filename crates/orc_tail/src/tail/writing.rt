@@ -224,12 +224,15 @@ impl Tail {
     pub fn put(&self, out: &mut Vec<u8>) -> Result<(), FileFault>
         requires limits { IsWithinLimits self.now }
         requires laid { IsLaid 3 self.now.stripes }
-        // Where the call succeeds, the tail's canonical text is appended.
+        // If the tail is within the limits and its stripes lie from byte 3 on, one after the other without gaps, then a
+        // call that succeeds appends the tail's canonical text to `out`.
         ensures text { OnOk result (out.new.items ≡ out.old.items ++ tail_text self.now) }
-        // Each number of a tail that was put fits its field.
+        // If the tail is within the limits and its stripes lie from byte 3 on, one after the other without gaps, then a
+        // call succeeds only if each number of the tail fits the bits of its field.
         ensures bits { OnOk result (HasBits self.now) }
 
-        // A refusal is want of memory, and leaves the bytes as they were.
+        // If the tail is within the limits and its stripes lie from byte 3 on, one after the other without gaps, then
+        // the only error is `OutOfMemory`, which leaves the bytes of `out` as they were.
         ensures refused { IfErr result (λ fault. fault ≡ OutOfMemory) }
         ensures unchanged { OnErr result (out.new.items ≡ out.old.items) }
     {
