@@ -35,7 +35,7 @@ impl<'a, R: Files<File = File>> FileSource<'a, R> {
     ///
     /// Refusal: `SourceFault` where it can't be opened now.
     pub fn open(files: &'a R, path: &'a str) -> Result<FileSource<'a, R>, SourceFault>
-        // The source is of the path that was asked for, and has not failed yet.
+        // A returned source is of the file with the path `path`, and its count of failures is 0.
         ensures path { IfOk result (λ source. source.path.now ≡ path.now) }
         ensures fresh { IfOk result (λ source. source.failures ≡ 0) }
     {
@@ -111,11 +111,10 @@ impl<R: Files<File = File>> Source for FileSource<'_, R> {
     }
 
     fn rest(&mut self)
-        // A rest changes neither the length nor the time of last change that the file was found
-        // with.
+        // `rest` changes neither the length nor the time of last change with which the file was found.
         ensures len { self.new.len ≡ self.old.len }
         ensures modified { self.new.modified ≡ self.old.modified }
-        // A rest is no failure.
+        // `rest` doesn't change the source's count of failures.
         ensures failures { self.new.failures ≡ self.old.failures }
     {
         self.kept = None;

@@ -19,16 +19,19 @@ pub fn read_range<S: Source>(
     len: u64,
 ) -> Result<Vec<u8>, RangeFault>
     requires { at + len ≤ S.size source.old }
-    // Where the source tells its bytes, what is answered is those of the range.
+    // If the range lies within the source and the source's bytes are known, then the returned bytes are the `len` bytes
+    // of the source from `at` on.
     ensures bytes { IfOk result (λ read. IfSome (S.told source.old) (λ bytes. read.items ≡ bytes_at at len bytes)) }
-    // The source has the length that it had, and tells what it told.
+    // If the range lies within the source, then the call changes neither the source's length nor what is known of its
+    // bytes.
     ensures size { S.size source.new ≡ S.size source.old }
     ensures told { S.told source.new ≡ S.told source.old }
-    // The source failed once where the refusal is SourceFailed, and didn't fail otherwise.
+    // If the range lies within the source, then the source's count of failures rises by one if the error is
+    // `SourceFailed`, and is unchanged otherwise.
     ensures failures { S.failures source.new ≡ range_failures result (S.failures source.old) }
-    // For no bytes the source stays as it is.
+    // If the range lies within the source and `len` is 0, then the call doesn't change the source.
     ensures unasked { len ≡ 0 → source.new ≡ source.old }
-    // Where there is no memory for the bytes, the source stays as it was.
+    // If the range lies within the source and the error is `OutOfMemory`, then the call doesn't change the source.
     ensures memory { IsErrOf result OutOfMemory → source.new ≡ source.old }
 {
     let mut read = vec![in alloc; 0u8; len as usize]?;

@@ -7,13 +7,14 @@ use crate::sink::Sink;
 /// Writes all the bytes, in as many calls as the sink wants. It stops at the first write that fails or takes
 /// nothing, and answers then how many bytes were taken by those before.
 pub fn write_all<W: Sink>(out: &mut W, bytes: &[u8]) -> Result<(), usize>
-    // Where it succeeds, and the sink tells its bytes, what is told has grown by all the bytes.
+    // If the call succeeds and the sink's bytes are known, then these bytes have grown by exactly `bytes`. Unknown
+    // bytes stay unknown.
     ensures all { OnOk result (W.told out.new ≡ appended (W.told out.old) bytes.now) }
-    // Where it is refused, and the sink tells its bytes, what is told has grown by as many bytes
-    // from the front as the refusal says, and not by all.
+    // If the call fails with the number `n`, then `n` is less than the length of `bytes`, and the sink's known bytes
+    // have grown by exactly the first `n` bytes of `bytes`. Unknown bytes stay unknown.
     ensures some { IfErr result (λ n. W.told out.new ≡ appended (W.told out.old) (take n bytes.now)) }
     ensures part { IfErr result (λ n. n < length bytes.now) }
-    // Where it is refused the sink failed once, and where it succeeds it didn't fail.
+    // The sink's count of failures rises by one if the call fails, and is unchanged if the call succeeds.
     ensures failures { W.failures out.new ≡ failures_after result (W.failures out.old) }
 {
     let mut at = 0;

@@ -18,13 +18,13 @@ pub trait Sink {
 
     /// Takes bytes from the front of the slice, and answers how many.
     fn write(&mut self, bytes: &[u8]) -> Result<usize, SinkFault>
-        // A write takes no more bytes than the slice has.
+        // A write takes at most as many bytes as `bytes` has.
         ensures bound { IfOk result (λ n. n ≤ length bytes.now) }
-        // Where the sink tells its bytes, what is told grows by just the front of the slice that
-        // was taken, and by nothing where the write is refused.
+        // If the sink's bytes are known, then these bytes grow by exactly the front of `bytes` that the write takes,
+        // and are unchanged if the write fails. Unknown bytes stay unknown.
         ensures told { told self.new ≡ appended (told self.old) (take (taken_of result) bytes.now) }
-        // A write that is refused, or takes nothing of some bytes, counts as one failure, and no
-        // other write does.
+        // A write that fails, or that takes nothing although `bytes` isn't empty, raises the sink's count of failures
+        // by one. Any other write leaves the count as it is.
         ensures failures { failures self.new ≡ write_failures result (length bytes.now) (failures self.old) };
 }
 

@@ -14,7 +14,7 @@ pub struct SliceSource<'a> {
 impl<'a> SliceSource<'a> {
     /// A source of these bytes.
     pub fn new(bytes: &'a [u8]) -> SliceSource<'a>
-        // The source tells the bytes that it was made of.
+        // The bytes of the returned source are known, and they are `bytes`.
         ensures told { ⟦<SliceSource<'a> as Source>⟧.told result ≡ Some bytes.now }
     {
         SliceSource { bytes }
@@ -36,10 +36,11 @@ impl Source for SliceSource<'_> {
 
     fn read_at(&mut self, at: u64, into: &mut [u8]) -> Result<(), SourceFault>
         requires { at + length into.old ≤ length self.old.bytes.now }
-        // No read of a slice fails, or changes the source.
+        // If the range lies within the slice, then a read succeeds and doesn't change the source.
         ensures never { result ≡ Ok tt }
         ensures same { self.new ≡ self.old }
-        // A read fills the slice with the bytes of the range.
+        // If the range lies within the slice, then a read that succeeds fills `into` with the bytes of the slice from
+        // `at` on.
         ensures bytes { OnOk result (into.new ≡ bytes_at at (length into.old) self.old.bytes.now) }
     {
         let start = at as usize;
@@ -48,7 +49,7 @@ impl Source for SliceSource<'_> {
     }
 
     fn rest(&mut self)
-        // A rest changes nothing of the source.
+        // `rest` doesn't change the source.
         ensures same { self.new ≡ self.old }
     {}
 

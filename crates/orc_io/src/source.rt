@@ -21,28 +21,30 @@ pub trait Source {
 
     /// The number of bytes.
     fn len(&self) -> u64
-        // The length is how many bytes the source has.
+        // The answer is the number of bytes that the source has.
         ensures { result ≡ size self.now };
 
     /// Fills the slice with the bytes from `at` on. Every refusal counts as a failure, and nothing else does.
     fn read_at(&mut self, at: u64, into: &mut [u8]) -> Result<(), SourceFault>
         requires { at + length into.old ≤ size self.old }
-        // Where the source tells its bytes, a read that succeeds fills the slice with those of the
-        // range.
+        // If the range lies within the source and the source's bytes are known, then a read that succeeds fills `into`
+        // with the bytes of the source from `at` on.
         ensures bytes { OnOk result (IfSome (told self.old) (λ bytes. into.new ≡ bytes_at at (length into.old) bytes)) }
-        // A read changes neither the length nor what is told.
+        // If the range lies within the source, then a read changes neither the source's length nor what is known of its
+        // bytes.
         ensures size { size self.new ≡ size self.old }
         ensures told { told self.new ≡ told self.old }
-        // A read that is refused counts as one failure, and no other read does.
+        // If the range lies within the source, then a read that fails raises the source's count of failures by one, and
+        // a read that succeeds leaves the count as it is.
         ensures failures { failures self.new ≡ failures_after result (failures self.old) };
 
     /// Says that no read comes for now, so that what was kept for the next one can be given back. The next read is
     /// answered as any other.
     fn rest(&mut self)
-        // A rest changes neither the length nor what is told.
+        // `rest` changes neither the source's length nor what is known of its bytes.
         ensures size { size self.new ≡ size self.old }
         ensures told { told self.new ≡ told self.old }
-        // A rest is no failure.
+        // `rest` doesn't change the source's count of failures.
         ensures failures { failures self.new ≡ failures self.old };
 
     /// What is told is all of them.

@@ -18,7 +18,7 @@ pub struct StdSink<W: Write> {
 impl<W: Write> StdSink<W> {
     /// A sink over this writer.
     pub fn new(out: W) -> StdSink<W>
-        // A sink begins with its writer as it is, and without failures.
+        // The returned sink has the writer `out` as it was given, and a count of failures of 0.
         ensures out { result.out ≡ out }
         ensures fresh { result.failures ≡ 0 }
     {
@@ -35,13 +35,13 @@ impl<W: Write> Sink for StdSink<W> {
     ghost failures = { λ sink. sink.failures };
 
     fn write(&mut self, bytes: &[u8]) -> Result<usize, SinkFault>
-        // A write takes no more bytes than the slice has.
+        // A write takes at most as many bytes as `bytes` has.
         ensures bound { IfOk result (λ n. n ≤ length bytes.now) }
-        // Where the writer tells what it holds, it has got the bytes that are said to be taken, and
-        // nothing where the write is refused.
+        // If the contents of the sink's writer are known, then the contents grow by exactly the front of `bytes` that
+        // the write takes, and are unchanged if the write fails.
         ensures out { WriteAppends (W.contents self.old.out) (W.contents self.new.out) result bytes.now }
-        // A write that is refused, or takes nothing of some bytes, counts as one failure, and no
-        // other write does.
+        // A write that fails, or that takes nothing although `bytes` isn't empty, raises the sink's count of failures
+        // by one. Any other write leaves the count as it is.
         ensures failures { self.new.failures ≡ write_failures result (length bytes.now) self.old.failures }
     {
         match self.out.write(bytes) {

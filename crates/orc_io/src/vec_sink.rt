@@ -17,7 +17,7 @@ pub struct VecSink {
 impl VecSink {
     /// A sink without bytes.
     pub fn new(alloc: Global) -> VecSink
-        // A sink begins without bytes and without failures.
+        // The bytes of the returned sink are known and empty, and its count of failures is 0.
         ensures told { ⟦<VecSink as Sink>⟧.told result ≡ Some [] }
         ensures fresh { ⟦<VecSink as Sink>⟧.failures result ≡ 0 }
     {
@@ -29,7 +29,7 @@ impl VecSink {
 
     /// The bytes that it has got.
     pub fn into_vec(self) -> Vec<u8>
-        // The bytes that are given back are those that the sink told.
+        // The returned bytes are the bytes of the sink, which are known.
         ensures told { ⟦<VecSink as Sink>⟧.told self ≡ Some result.items }
     {
         self.bytes
@@ -42,19 +42,20 @@ impl Sink for VecSink {
     ghost failures = { λ sink. sink.failures };
 
     fn write(&mut self, bytes: &[u8]) -> Result<usize, SinkFault>
-        // A write that succeeds takes the whole slice.
+        // A write that succeeds takes all of `bytes`.
         ensures whole { IfOk result (λ n. n ≡ length bytes.now) }
-        // The vector grows by the slice where the write succeeds, and stays as it is where it is
-        // refused.
+        // The bytes of the sink's vector grow by exactly `bytes` if the write succeeds, and are unchanged if the write
+        // fails.
         ensures told { self.new.bytes.items
             ≡ (if is_ok result then self.old.bytes.items ++ bytes.now else self.old.bytes.items) }
-        // A write that is refused counts as one failure, and no other write does.
+        // A write that fails raises the sink's count of failures by one. A write that succeeds leaves the count as it
+        // is.
         ensures failures { self.new.failures ≡ failures_after result self.old.failures }
-        // A write is refused only where the vector lacked the room; where the room is there, it
-        // succeeds.
+        // If the capacity of the sink's vector is at least the vector's length and the length of `bytes` together, then
+        // the write succeeds. A write fails only if the capacity is less than these two lengths together.
         ensures full { OnErr result (vec_capacity self.old.bytes < vec_len self.old.bytes + length bytes.now) }
         ensures succeeds { vec_len self.old.bytes + length bytes.now ≤ vec_capacity self.old.bytes → IsOk result }
-        // No write gives room back.
+        // A write doesn't lower the capacity of the sink's vector.
         ensures capacity { vec_capacity self.old.bytes ≤ vec_capacity self.new.bytes }
     {
         match self.bytes.extend_from_slice(bytes) {
