@@ -106,7 +106,8 @@ impl<'a> StripeView<'a> {
         // each column has a row index with an entry for each group.
         ensures there { IfOk result (λ _. HasGroup self.now group × HasEntries self.now group) }
         // A cursor is returned only if readers of all columns can stand at the positions in the entries of `group`:
-        // each entry has as many positions as its column's streams have, and each position lies in its stream.
+        // each entry has as many positions as its column's streams have, each position lies in its stream, and each
+        // dictionary reads.
         ensures entered { IfOk result (λ _. IsEntered self.now group) }
         // If rows are the remaining rows of a returned cursor, then the streams spell exactly these rows from the
         // positions in the entries of `group` on, and these are as many as the stripe has from row `group * stride` on.
