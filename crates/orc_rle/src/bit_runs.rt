@@ -25,19 +25,25 @@ impl BitRuns {
     /// Refusals: those of `ByteRuns::decode` for the least number of bytes that holds `n` booleans. So
     /// `TooMany` comes where a run goes past that number of bytes, and `TooFew` where they end before it.
     pub fn decode(alloc: Global, bytes: &[u8], n: usize) -> Result<Vec<bool>, RunFault>
-        // What is decoded is `n` booleans whose digits begin those of the bytes that the runs have,
-        // in the least number of bytes that holds them.
+        // The returned `n` booleans are the first `n` bits of the values of the runs that make up all of `bytes`, one
+        // run after the other, with the highest bit of each value first. These runs have `n` / 8 values in all (rounded
+        // up).
         ensures found { IfOk result (λ values. IsBitStream bytes.now values.items × (length values.items ≡ n)) }
-        // Bytes that are a stream of `n` booleans, whatever the spare digits, are decoded to these,
-        // unless memory is refused.
+        // If all of `bytes` are runs, one after the other, with `n` / 8 values in all (rounded up), then the call
+        // returns the first `n` bits of these values as booleans, the highest bit of each value first, whatever the
+        // spare bits are, or it fails with `OutOfMemory`.
         ensures only { (values : List Bool) → IsBitStream bytes.now values → length values ≡ n
             → MatchResult result (λ decoded. decoded.items ≡ values) (λ fault. fault ≡ OutOfMemory) }
 
-        // A refusal is want of memory, or that of runs of as many bytes as hold `n` booleans, at
-        // its place.
+        // An error is `OutOfMemory`; or, for the first run from the left inside which `bytes` end or which is whole but
+        // goes past `n` / 8 values (rounded up), `Short` or `TooMany`, with that run's offset; or, if there is no such
+        // run, `TooFew` with the length of `bytes`, whose runs have fewer than `n` / 8 values in all.
         ensures fault { IfErr result (λ fault. (fault ≡ OutOfMemory)
             ⊎ StopsWithin IsByteRun NoByteRun (packed_len 1 n) bytes.now fault) }
-        // Where such a refusal applies, it is answered, or memory is refused.
+        // If `bytes` end inside a run, a whole run goes past `n` / 8 values (rounded up), or the runs have fewer than
+        // `n` / 8 values in all, then the call fails. The error is `Short` or `TooMany` for the first such run from the
+        // left, with that run's offset; or `TooFew` with the length of `bytes`, if there is no such run; or
+        // `OutOfMemory`.
         ensures refused { (fault : RunFault)
             → StopsWithin IsByteRun NoByteRun (packed_len 1 n) bytes.now fault → Refuses result fault }
     {
@@ -61,35 +67,48 @@ impl BitRuns {
     /// 0; by one at most where the first run has all these bytes; without a refusal by the number of runs
     /// from the offset to the answer. It takes no memory.
     pub fn seek(bytes: &[u8], pos: BitPos, run: &mut RunU8) -> Result<usize, RunFault>
-        // The answer is the offset behind the runs that are decoded from the position on until it
-        // is passed; what is left of the last is in `run`, first the byte of which bits are passed.
+        // The returned offset is the end of the last run that is needed to skip `pos.skip` values from `pos.offset` on
+        // and, if `pos.bits` is above 0, to reach the next value. `run` contains that run's values after the skipped
+        // ones: if `pos.bits` is above 0, the first is the byte of which `pos.bits` bits are skipped. If `pos.skip` and
+        // `pos.bits` are 0, no run is needed: the returned offset is `pos.offset`, which is at most the length of
+        // `bytes`, and `run` has no values. `pos.bits` is at most 8.
         ensures found { IfOk result (λ at. SeeksBits bytes.now pos.offset pos.skip pos.bits at run.new.values) }
-        // Where the runs from the offset on have so many, and eight bits at most are passed, it
-        // isn't refused.
+        // If `pos.bits` is at most 8, `pos.offset` is at most the length of `bytes`, and the runs from there on have
+        // the needed values, which are `pos.skip` and one more if `pos.bits` is above 0, then the call returns the end
+        // of the last run that has a needed value, and `run` contains that run's values after the first `pos.skip`
+        // ones. If no values are needed, the call returns `pos.offset`, and `run` has no values.
         ensures only { (at : ℕ) (left : List ℕ) → SeeksBits bytes.now pos.offset pos.skip pos.bits at left
             → (result ≡ Ok at) × (run.new.values ≡ left) }
 
-        // A refusal is BadPosition at the offset, if that is past the end, too few bytes follow or
-        // bits are above 8, or the fault of bytes on the way that are no run, at their place.
+        // An error is `BadPosition` with `pos.offset`, if `pos.bits` is above 8, `pos.offset` is past the end of
+        // `bytes`, or the runs from there to the end have fewer than the needed values, which are `pos.skip` and one
+        // more if `pos.bits` is above 0. Or `pos.bits` is at most 8, and the error is `Short` with the offset of a run
+        // inside which `bytes` end and which is met before the needed values are there.
         ensures fault { IfErr result (BitSeekFails bytes.now pos.offset pos.skip pos.bits) }
-        // Where such a refusal applies, it is answered.
+        // If `pos.bits` is above 8, `pos.offset` is past the end of `bytes`, the runs from there to the end have fewer
+        // than the needed values, which are `pos.skip` and one more if `pos.bits` is above 0, or `bytes` end inside a
+        // run that is met before the needed values are there, then the call fails. In the last case the error is
+        // `Short` with that run's offset, unless `pos.bits` is above 8; in the other cases it is `BadPosition` with
+        // `pos.offset`.
         ensures refused { (fault : RunFault)
             → BitSeekFails bytes.now pos.offset pos.skip pos.bits fault → result ≡ Err fault }
-        // After a refusal the run is empty.
+        // An error leaves `run` with no values.
         ensures empty { OnErr result (run.new.values ≡ []) }
 
-        // The run's count rises by no more than the bytes that are passed, and one more for bits.
+        // The count of decoded runs in `run` rises by at most `pos.skip`, and by at most one more if `pos.bits` is
+        // above 0, whether the call succeeds or fails.
         ensures count { run.new.count ≤ run.old.count + bytes_needed pos.skip pos.bits }
-        // Where the run at the offset has all that is passed, the count rises by one at most.
+        // If a run begins at `pos.offset` that has at least `pos.skip` values, and one more if `pos.bits` is above 0,
+        // then the count of decoded runs in `run` rises by at most 1.
         ensures one_run { (front rest v : List ℕ) → IsByteRun front v → drop pos.offset bytes.now ≡ front ++ rest
             → bytes_needed pos.skip pos.bits ≤ length v → run.new.count ≤ run.old.count + 1 }
-        // Where the position isn't refused, the count rises by the number of runs from its offset
-        // to the answer.
+        // If the call succeeds, then the count of decoded runs in `run` rises by the number of runs from `pos.offset`
+        // to the returned offset.
         ensures counted { IfOk result
             (λ at. CountsRuns IsByteRun bytes.now pos.offset at run.old.count run.new.count) }
-        // Refused or not, the count never falls.
+        // The count of decoded runs in `run` never falls, whether the call succeeds or fails.
         ensures grows { run.old.count ≤ run.new.count }
-        // Where more than eight bits are to be passed, no run is decoded: the count stays.
+        // If `pos.bits` is above 8, then the count of decoded runs in `run` stays the same.
         ensures uncounted { 8 < pos.bits → run.new.count ≡ run.old.count }
     {
         if pos.bits > 8 {
@@ -120,10 +139,12 @@ impl BitRuns {
     ///
     /// A refusal, which is `OutOfMemory`, leaves `out` as it was.
     pub fn put_runs(values: &[bool], out: &mut Vec<u8>) -> Result<(), RunFault>
-        // The writer's text of the booleans, spare digits 0, is appended, unless memory is refused.
+        // If the call succeeds, then the writer's bytes for `values` are appended to `out`: those that
+        // `ByteRuns::put_runs` appends for the bytes in which the booleans are packed, eight in a byte, the highest bit
+        // first, with spare bits of 0.
         ensures written { OnOk result (AppendsBytes IsBitText values.now out.old.items out.new.items) }
 
-        // The only refusal is want of memory, and it leaves `out` as it was.
+        // The only error is `OutOfMemory`, and it leaves `out` as it was.
         ensures refused { IfErr result (λ fault. fault ≡ OutOfMemory) }
         ensures unchanged { OnErr result (out.new.items ≡ out.old.items) }
     {
