@@ -20,7 +20,7 @@ pub struct FieldWriter<'a> {
 impl<'a> FieldWriter<'a> {
     /// A writer that appends to `out`.
     pub fn new(out: &'a mut Vec<u8>) -> FieldWriter<'a>
-        // A writer of fields begins with its vector as it is.
+        // The new writer has `out` as its vector, with the bytes that it had.
         ensures bytes { result.out.now.items ≡ out.old.items }
         ensures same_vector { result.out.ghost_name ≡ out.entry.ghost_name }
     {
@@ -33,23 +33,24 @@ impl<'a> FieldWriter<'a> {
     /// has, 0 or above 2^29-1, at the place where its key would stand, which is the vector's length;
     /// `OutOfMemory`.
     pub fn put(&mut self, number: u32, value: Value<'_>) -> Result<(), WireFault>
-        // Unless it is refused, the field is appended: its key and what it carries, with the
-        // shortest varints.
+        // If the call succeeds, then the field is appended to the writer's vector, with the shortest varints: its key,
+        // which is `number` * 8 + wire type, and its payload.
         ensures text { OnOk result (self.new.out.now.items ≡ self.old.out.now.items
             ++ field_text number (payload_of value.entry)) }
-        // What is appended is a field of this number and value, wherever it stands, so it is read
-        // back.
+        // If the call succeeds, then the appended bytes are a field with `number` and `value`, whatever place they
+        // have.
         ensures again { OnOk result ((place : ℕ) → IsField place (item_at number (payload_of value.entry) place)) }
 
-        // A number that no field has, 0 or above 2^29 - 1, is refused as BadWireType at the
-        // vector's length.
+        // If `number` is 0 or at least 2^29, then the call fails with `BadWireType`, whose place is the length of the
+        // writer's vector before the call.
         ensures bad { IsOutside 1 (2 ^ 29) number → result ≡ Err (BadWireType (length self.old.out.now.items)) }
-        // No other refusal comes but want of memory.
+        // An error is `OutOfMemory`; or, for a `number` of 0 or at least 2^29, it is `BadWireType`, whose place is the
+        // length of the writer's vector before the call.
         ensures refused { IfErr result (λ fault. (fault ≡ OutOfMemory)
             ⊎ (IsOutside 1 (2 ^ 29) number × (fault ≡ BadWireType (length self.old.out.now.items)))) }
-        // After a refusal the vector is as it was.
+        // An error leaves the writer's vector with the bytes that it had.
         ensures unchanged { OnErr result (self.new.out.now.items ≡ self.old.out.now.items) }
-        // The writer goes on with the same vector.
+        // The writer has the same vector after the call as before, whether the call succeeds or fails.
         ensures same_vector { self.new.out.ghost_name ≡ self.old.out.ghost_name }
     {
         let start = self.out.len();

@@ -31,26 +31,25 @@ pub trait Message: Sized + Drop {
 
     /// The message of no fields.
     fn empty(alloc: Global) -> Self
-        // What is answered is the message of no fields, with each member as it is where no field
-        // tells it.
+        // Returns the message of no fields, in which each member has its value for a missing field.
         ensures { result ≡ members.start };
 
     /// Takes one more field.
     fn take(&mut self, alloc: Global, field: &Field) -> Result<(), WireFault>
-        // One more field changes the message as its members say, unless it is refused.
+        // If the call succeeds, then `field` has changed the message in the way that the message's members define.
         ensures ok { OnOk result (members.steps (item_of field.now) self.old self.new) }
-        // A refusal is one that a member has of this field, or want of memory.
+        // An error is `OutOfMemory`, or one with which a member refuses `field`, given the message before the call.
         ensures fault { IfErr result (λ e. (e ≡ OutOfMemory) ⊎ members.refuses (item_of field.now) self.old e) };
 
     /// Appends the canonical text. After a refusal a part of it may stand there.
     fn put_members(&self, out: &mut Vec<u8>) -> Result<(), WireFault>
-        // Unless memory is refused, the message's one canonical text is appended.
+        // If the call succeeds, then the message's canonical encoding is appended to `out`.
         ensures text { OnOk result (out.new.items ≡ out.old.items ++ canonical.text self.now) }
-        // Where it is appended, the message's numbers have the bits of their fields.
+        // If the call succeeds, then each number of the message fits the bits of its field.
         ensures bounded { OnOk result (canonical.bounded self.now) }
-        // The one refusal is want of memory.
+        // The only error is `OutOfMemory`.
         ensures refused { IfErr result (λ fault. fault ≡ OutOfMemory) }
-        // What the Vec held stays in front, after a refusal too.
+        // The bytes that `out` had stay at its front, whether the call succeeds or fails.
         ensures front { KeepsFront out.old.items out.new.items };
 
     // the required number is always written
@@ -58,19 +57,23 @@ pub trait Message: Sized + Drop {
 
     /// The message of the fields, whose places count on from where they stand.
     final fn read_fields(alloc: Global, fields: Fields<'_>) -> Result<Self, WireFault>
-        // What is read is the message that the fields spell, with places counted from where they
-        // stand.
+        // The returned message is the one that the bytes of `fields` encode, with places counted from the place of
+        // `fields` on.
         ensures found { IfOk result (λ message.
             Spells members REQUIRED fields.entry.place fields.entry.rest.now message) }
-        // Fields that spell a message are read as it, or memory is refused.
+        // If the bytes of `fields` encode a message, then the call returns this message, or fails with `OutOfMemory`.
         ensures only { (content : Self)
             → Spells members REQUIRED fields.entry.place fields.entry.rest.now content
             → MatchResult result (λ message. message ≡ content) (λ e. e ≡ OutOfMemory) }
-        // A refusal is the first fault from the left, at the place of the innermost key, with
-        // Missing last, or it is want of memory.
+        // An error is `OutOfMemory`; or the error of the first field from the left that is invalid or refused by a
+        // member; or, if there is no such field, `Missing`, because a required field isn't there. The place in an
+        // error, if the error has one, is that of the innermost field with the error, counted from the place of
+        // `fields` on.
         ensures fault { IfErr result (λ e. (e ≡ OutOfMemory)
             ⊎ Faults members REQUIRED fields.entry.place fields.entry.rest.now e) }
-        // Where such a fault applies, it is answered, or memory is refused.
+        // If the bytes of `fields` have a field that is invalid or refused by a member, or lack a required field, then
+        // the call fails. The error is that of the first invalid or refused field from the left, with the place of the
+        // innermost field with the error; or `Missing`, if no field is invalid or refused; or `OutOfMemory`.
         ensures refused { (fault : WireFault)
             → Faults members REQUIRED fields.entry.place fields.entry.rest.now fault
             → MatchResult result (λ _. ⊥) (λ e. (e ≡ OutOfMemory) ⊎ (e ≡ fault)) }
@@ -95,16 +98,20 @@ pub trait Message: Sized + Drop {
     /// fault, with the place of its key (of the innermost key, in a message within); `Missing` comes
     /// last within its message. `OutOfMemory` may come instead.
     final fn read(alloc: Global, bytes: &[u8]) -> Result<Self, WireFault>
-        // What is read is the message that the bytes spell.
+        // The returned message is the one that `bytes` encode, with places counted from the first byte.
         ensures found { IfOk result (λ message. Spells members REQUIRED 0 bytes.now message) }
-        // Bytes that spell a message are read as it, or memory is refused.
+        // If `bytes` encode a message, then the call returns this message, or fails with `OutOfMemory`.
         ensures only { (content : Self)
             → Spells members REQUIRED 0 bytes.now content
             → MatchResult result (λ message. message ≡ content) (λ e. e ≡ OutOfMemory) }
-        // A refusal is the first fault from the left, at the place of the innermost key, with
-        // Missing last, or it is want of memory.
+        // An error is `OutOfMemory`; or the error of the first field from the left that is invalid or refused by a
+        // member; or, if there is no such field, `Missing`, because a required field isn't there. The place in an
+        // error, if the error has one, is that of the innermost field with the error, counted from the first byte of
+        // `bytes`.
         ensures fault { IfErr result (λ e. (e ≡ OutOfMemory) ⊎ Faults members REQUIRED 0 bytes.now e) }
-        // Where such a fault applies, it is answered, or memory is refused.
+        // If `bytes` have a field that is invalid or refused by a member, or lack a required field, then the call
+        // fails. The error is that of the first invalid or refused field from the left, with the place of the innermost
+        // field with the error; or `Missing`, if no field is invalid or refused; or `OutOfMemory`.
         ensures refused { (fault : WireFault)
             → Faults members REQUIRED 0 bytes.now fault
             → MatchResult result (λ _. ⊥) (λ e. (e ≡ OutOfMemory) ⊎ (e ≡ fault)) }
@@ -115,13 +122,14 @@ pub trait Message: Sized + Drop {
     /// Appends the canonical text of the message. A refusal, which is `OutOfMemory`, leaves `out` as
     /// it was.
     final fn put(&self, out: &mut Vec<u8>) -> Result<(), WireFault>
-        // Unless memory is refused, the message's one canonical text is appended.
+        // If the call succeeds, then the message's canonical encoding is appended to `out`.
         ensures text { OnOk result (out.new.items ≡ out.old.items ++ canonical.text self.now) }
-        // Where that text holds all of the message, it reads back as the message.
+        // If the call succeeds and the message's canonical encoding contains all of the message, then this encoding
+        // reads back as the message.
         ensures again { OnOk result (canonical.whole self.now
             → Spells members REQUIRED 0 (canonical.text self.now) self.now) }
 
-        // A refusal is want of memory, and leaves the Vec as it was.
+        // The only error is `OutOfMemory`, and it leaves `out` as it was.
         ensures refused { IfErr result (λ fault. fault ≡ OutOfMemory) }
         ensures unchanged { OnErr result (out.new.items ≡ out.old.items) }
     {
@@ -138,13 +146,13 @@ pub trait Message: Sized + Drop {
     /// Appends the message as a field of that number, behind the members of another one. A refusal,
     /// which is `OutOfMemory`, leaves `out` as it was.
     final fn put_within(&self, number: u32, out: &mut Vec<u8>) -> Result<(), WireFault>
-        // Unless memory is refused, the field is appended: its key, and the message's one canonical
-        // text behind its length.
+        // If the call succeeds, then a field with `number` is appended to `out`: its key and the length of the
+        // message's canonical encoding, each as the shortest varint, and that encoding.
         ensures text { OnOk result (out.new.items
             ≡ out.old.items ++ sized_text number (canonical.text self.now)) }
-        // Where it is appended, the message's numbers have the bits of their fields.
+        // If the call succeeds, then each number of the message fits the bits of its field.
         ensures bounded { OnOk result (canonical.bounded self.now) }
-        // A refusal is want of memory, and leaves the Vec as it was.
+        // The only error is `OutOfMemory`, and it leaves `out` as it was.
         ensures refused { IfErr result (λ fault. fault ≡ OutOfMemory) }
         ensures unchanged { OnErr result (out.new.items ≡ out.old.items) }
     {
