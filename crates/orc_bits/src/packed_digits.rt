@@ -113,17 +113,19 @@ fn unpack_there(bytes: &[u8], width: u32, out: &mut [u64])
 /// takes no memory.
 pub fn unpack(bytes: &[u8], width: Width, n: usize, out: &mut [u64]) -> Result<usize, BitFault>
     requires { length out.old ≡ n }
-    // Where the slice has n places, it gets the n numbers that stand packed in front, whatever the
-    // spare digits are, and the answer is the least number of bytes that holds them.
+    // If `out` has `n` places, then a returned length is the least number of bytes that holds `n` numbers of `width`,
+    // at most the length of `bytes`, and `out` contains the `n` numbers that are packed in that many bytes at the front
+    // of `bytes`, whatever the spare bits are.
     ensures found { IfOk result (λ len. IsPacked (take len bytes.now) (width_at width.code) out.new) }
     ensures len { IfOk result (λ len. len ≡ packed_len (width_at width.code) n) }
     ensures within { IfOk result (λ len. len ≤ length bytes.now) }
-    // Any n numbers that stand packed in front are unpacked, whatever follows them.
+    // If `out` has `n` places and `bytes` begin with `n` packed numbers of `width`, then the call returns the number of
+    // bytes that these numbers take, and `out` contains the numbers, whatever bytes follow.
     ensures only { (front rest values : List ℕ) → IsPacked front (width_at width.code) values
         → length values ≡ n → bytes.now ≡ front ++ rest → (result ≡ Ok (length front)) × (out.new ≡ values) }
 
-    // The one refusal is Short, where the bytes are fewer than hold n numbers; the slice is then as
-    // it was.
+    // If `out` has `n` places, then the only error is `Short`. It comes only if `bytes` are fewer than `n` packed
+    // numbers of `width` take, and it leaves `out` as it was.
     ensures fault { IfErr result (λ fault. (fault ≡ Short) × (length bytes.now < packed_len (width_at width.code) n)) }
     ensures unchanged { OnErr result (out.new ≡ out.old) }
 {
@@ -199,12 +201,12 @@ fn pack_plain(values: &[u64], width: u32, out: &mut [u8])
 /// left for these bytes.
 pub fn pack(values: &[u64], width: Width, out: &mut Vec<u8>) -> Result<(), BitFault>
     requires { AllFit (width_at width.code) values.now }
-    // Where each number fits the width, the least number of bytes that holds the numbers is
-    // appended, with spare digits of 0, unless memory is refused.
+    // If each of `values` fits `width` and the call succeeds, then `values` are appended to `out`, packed with `width`
+    // in the least number of bytes that holds them, with spare bits of 0.
     ensures text { OnOk result (AppendsPacked (width_at width.code) values.now out.old.items out.new.items) }
 
-    // A refusal is want of memory, leaves the Vec as it was, and comes only where it had no room
-    // left for these bytes.
+    // If each of `values` fits `width`, then the only error is `OutOfMemory`. It leaves `out` as it was, and comes only
+    // if the packed bytes don't fit the capacity that `out` has left.
     ensures refused { IfErr result (λ fault. fault ≡ OutOfMemory) }
     ensures unchanged { OnErr result (out.new.items ≡ out.old.items) }
     ensures full { OnErr result (vec_capacity out.old
@@ -229,6 +231,7 @@ pub fn packed_laws()
         → length v ≡ length u → IsPacked a w v → IsPacked b w u → a ++ x ≡ b ++ y → (a ≡ b) × (v ≡ u) }
     // Numbers have one text of a width with spare digits of 0.
     ensures one_text { (w : ℕ) (a b v : List ℕ) → IsPackedText a w v → IsPackedText b w v → a ≡ b }
-    // Such a text is packed bytes of the same numbers.
+    // If bytes contain numbers of a width packed with spare bits of 0, then they contain the same numbers packed with
+    // spare bits of any value.
     ensures again { (w : ℕ) (a v : List ℕ) → IsPackedText a w v → IsPacked a w v }
 {}

@@ -5,9 +5,9 @@ ghost use Rattle.orc_bits.specs.Zigzag.{zig};
 /// The zigzag number of `n`, so that numbers near 0 of either sign are small: 0, -1, 1, -2 become
 /// 0, 1, 2, 3 (Protocol Buffers encoding, "Signed Integers").
 pub fn zigzag(n: i64) -> u64
-    // The zigzag number of n is 2n, or -2n - 1 where n is below 0.
+    // Returns 2 * `n` if `n` is at least 0, and -2 * `n` - 1 if `n` is negative.
     ensures value { result ≡ zig n }
-    // No other number has that zigzag number.
+    // If an integer has the returned zigzag number, then this integer is `n`.
     ensures only { (m : ℤ) → zig m ≡ result → m ≡ n }
 {
     if n < 0 {
@@ -19,7 +19,7 @@ pub fn zigzag(n: i64) -> u64
 
 /// The one number whose zigzag number is `n`.
 pub fn unzigzag(n: u64) -> i64
-    // What is answered has n as its zigzag number, and no other number has.
+    // Returns the only integer that has the zigzag number `n`.
     ensures value { zig result ≡ n }
     ensures only { (m : ℤ) → zig m ≡ n → m ≡ result }
 {

@@ -15,17 +15,20 @@ const MOST_VARINT_BYTES: usize = 10;
 /// Refusals: `Short` where `bytes` end within the varint, `TooLong` where its tenth byte is above
 /// 1. It takes no memory.
 pub fn read_varint(bytes: &[u8]) -> Result<(u64, usize), BitFault>
-    // What is read is a varint in front of the bytes, with its number and its length.
+    // The returned pair is the number of a varint at the front of `bytes` and the varint's length, which is at most the
+    // length of `bytes`.
     ensures found { IfOk result (λ found. IsVarint (take found.1 bytes.now) found.0) }
     ensures within { IfOk result (λ found. found.1 ≤ length bytes.now) }
-    // A varint in front is read, whatever follows it, the longer spellings too.
+    // If `bytes` begin with a varint, the shortest of its number or a longer one, then the call returns its number and
+    // its length, whatever bytes follow.
     ensures only { (front rest : List ℕ) (n : ℕ)
         → IsVarint front n → bytes.now ≡ front ++ rest → result ≡ Ok (n, length front) }
 
-    // A refusal says why: Short where the bytes are fewer than ten and each has its top bit set,
-    // TooLong where nine have it set and a tenth is above 1; it is never want of memory.
+    // An error is `Short` if `bytes` are empty, or fewer than ten and each at least 128; and `TooLong` if each of the
+    // first nine is at least 128 and the tenth is above 1. There is no other error.
     ensures fault { IfErr result (NoVarint bytes.now) }
-    // Where such a reason holds, it is answered.
+    // If `bytes` are empty, or fewer than ten and each at least 128, or the first nine are at least 128 and the tenth
+    // is above 1, then the call fails, with `TooLong` in the last case and with `Short` in the others.
     ensures refused { (fault : BitFault) → NoVarint bytes.now fault → result ≡ Err fault }
 {
     let mut value: u64 = 0;
@@ -51,12 +54,12 @@ pub fn read_varint(bytes: &[u8]) -> Result<(u64, usize), BitFault>
 /// Appends the shortest varint of `n`. A refusal, which is `OutOfMemory`, leaves `out` as it was,
 /// and comes only where `out` had no room left for the varint.
 pub fn put_varint(n: u64, out: &mut Vec<u8>) -> Result<(), BitFault>
-    // Unless memory is refused, a varint of n is appended, and none of n is shorter.
+    // If the call succeeds, then a varint of `n` is appended to `out`, and no varint of `n` is shorter.
     ensures text { OnOk result (out.new.items ≡ out.old.items ++ varint_text n) }
     ensures shortest { OnOk result (IsShortest (varint_text n) n) }
 
-    // A refusal is want of memory, leaves the Vec as it was, and comes only where it had no room
-    // left for the varint.
+    // The only error is `OutOfMemory`. It leaves `out` as it was, and comes only if the shortest varint of `n` doesn't
+    // fit the capacity that `out` has left.
     ensures refused { IfErr result (λ fault. fault ≡ OutOfMemory) }
     ensures unchanged { OnErr result (out.new.items ≡ out.old.items) }
     ensures full { OnErr result (vec_capacity out.old < vec_len out.old + length (varint_text n)) }
@@ -85,12 +88,12 @@ pub fn varint_laws()
     ensures prefix { (a b x y : List ℕ) (m n : ℕ) → IsVarint a m → IsVarint b n → a ++ x ≡ b ++ y → (a ≡ b) × (m ≡ n) }
     // Each number below 2^64 has a shortest varint, the one that is written of it.
     ensures written { (n : ℕ) → n < 2 ^ 64 → IsShortest (varint_text n) n }
-    // No number has another shortest varint.
+    // If bytes are a shortest varint of a number, then they are the varint that `put_varint` appends for this number.
     ensures one_shortest { (a : List ℕ) (n : ℕ) → IsShortest a n → a ≡ varint_text n }
-    // Where a fault applies, no varint stands in front.
+    // If `read_varint` has an error for bytes, then they don't begin with a varint.
     ensures none { (a x : List ℕ) (n : ℕ) (fault : BitFault) → NoVarint (a ++ x) fault → IsVarint a n → ⊥ }
-    // Where a fault applies, no other fault does.
+    // If `read_varint` has an error for bytes, then it has no other error for them.
     ensures one_fault { (bytes : List ℕ) (e f : BitFault) → NoVarint bytes e → NoVarint bytes f → e ≡ f }
-    // Whatever bytes stand, numbers below 256, a varint is in front of them or a fault applies.
+    // If each byte is below 256, then the bytes begin with a varint or `read_varint` has an error for them.
     ensures cover { (bytes : List ℕ) → AllBytes bytes → HasVarint bytes ⊎ ((fault : BitFault) × NoVarint bytes fault) }
 {}

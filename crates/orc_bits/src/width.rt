@@ -12,7 +12,7 @@ pub struct Width {
 
 /// The width of a header's five bits, which are below 32; `None` for every other number.
 pub fn width_of(code: u8) -> Option<Width>
-    // Each number below 32 names a width, and no other number does.
+    // Returns the width with the code `code` if `code` is below 32, and `None` otherwise.
     ensures { MatchOption result (32 ≤ code) (λ width. width.code ≡ code) }
 {
     if code < 32 {
@@ -24,7 +24,7 @@ pub fn width_of(code: u8) -> Option<Width>
 
 /// The number below 32 by which a header names a width: the one that `width_of` takes.
 pub fn code_of(width: Width) -> u8
-    // What is answered is the number that names the width, which is below 32.
+    // Returns the code of `width`, which is below 32.
     ensures is { result ≡ width.code }
     ensures below { result < 32 }
 {
@@ -35,8 +35,8 @@ pub fn code_of(width: Width) -> u8
 /// 0 digits it is that of one digit.
 pub fn fixed_at_least(digits: u32) -> Width
     requires { digits ≤ 64 }
-    // Where at most 64 digits are asked for, the least width with room for them is answered, and
-    // that of 1 digit for none.
+    // If `digits` is at most 64, then the returned width is the least that has at least `digits` bits. For a `digits`
+    // of 0 this is the width of 1 bit.
     ensures { IsLeastWidth digits result.code }
 {
     let code = match digits {
