@@ -67,7 +67,7 @@ impl<W: Sink> Writer<W> {
     /// How many bytes the output has taken so far, also once the writer answers `Failed`. Where the output tells its
     /// bytes, it is how many it has got since the writer was made.
     pub fn written(&self) -> u64
-        // The answer is the writer's count of the bytes that its output has taken.
+        // Returns the writer's count of the bytes that its output has taken.
         ensures { result ≡ self.now.written }
     {
         self.written

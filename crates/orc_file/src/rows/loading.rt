@@ -118,27 +118,28 @@ impl<S: Source> OrcFile<S> {
     /// the vector touched; `SourceFailed` where the source failed; `OutOfMemory`.
     pub fn load(&mut self, number: usize, into: &mut Vec<u8>) -> Result<(), FileFault>
         requires { number < length self.old.tail.stripes }
-        // Where the call succeeds, the vector has as many bytes as the stripe, and those of the stripe
-        // where the source tells its bytes. The source tells what it told and is as long; its count of
-        // failures rises with SourceFailed alone. Memory is refused only where the vector's capacity
-        // was below the stripe's length. (The fields of `LoadsStripe`.)
+        // If the call succeeds, then `into` has as many bytes as stripe `number`, and they are the stripe's
+        // bytes if the source's bytes are known. In any case the source has its former length, and the same is
+        // known of its bytes. The source's count of failures is unchanged if the call succeeds or the error is
+        // `OutOfMemory`, and higher if the error is `SourceFailed`. `OutOfMemory` comes only if the capacity of
+        // `into` was less than the stripe's length.
         ensures loaded { LoadsStripe S.told S.size S.failures self.old.source self.new.source
             (stripe_at self.old.tail.stripes number) (vec_capacity into.old) into.new.items result }
-        // After each answer the file has the tail and the cap that it had.
+        // The file keeps its tail and its cap.
         ensures tail { self.new.tail ≡ self.old.tail }
         ensures cap { self.new.cap ≡ self.old.cap }
 
-        // Where the stripe is longer than the cap, the answer is Limit, with file and vector as
-        // they were.
+        // If stripe `number` is longer than the file's cap, then the error is `Limit`, and the file and `into`
+        // are unchanged.
         ensures limit { self.old.cap < stripe_length (stripe_at self.old.tail.stripes number)
             → (result ≡ Err Limit) × ((self.new ≡ self.old) × (into.new ≡ into.old)) }
-        // Where the call succeeds, the stripe is no longer than the cap.
+        // If the call succeeds, then stripe `number` is no longer than the file's cap.
         ensures within { OnOk result (stripe_length (stripe_at self.old.tail.stripes number) ≤ self.old.cap) }
-        // A refusal is want of memory or SourceFailed, or it is Limit and the stripe is longer than
-        // the cap.
+        // An error is `OutOfMemory`, `SourceFailed`, or, only if stripe `number` is longer than the file's cap,
+        // `Limit`.
         ensures fault { IfErr result (λ fault. (fault ≡ OutOfMemory) ⊎ ((fault ≡ SourceFailed)
             ⊎ ((fault ≡ Limit) × (self.old.cap < stripe_length (stripe_at self.old.tail.stripes number))))) }
-        // With the greatest cap a refusal is want of memory or SourceFailed alone.
+        // If the file's cap is 2^64 - 1, then an error is `OutOfMemory` or `SourceFailed`.
         ensures uncapped { self.old.cap ≡ no_cap → IfErr result
             (λ fault. (fault ≡ OutOfMemory) ⊎ (fault ≡ SourceFailed)) }
     {
@@ -158,10 +159,10 @@ impl<S: Source> OrcFile<S> {
         bytes: &'a [u8],
     ) -> Result<StripeView<'a>, FileFault>
         requires { number < length self.now.tail.stripes }
-        // The view is that of this stripe over these bytes, with the file's schema and stride, and its
-        // footer the one that the bytes have. Where they have one, the view is answered with it, or
-        // memory is refused; a refusal is want of memory, or it names the stripe and why its footer
-        // isn't accepted. (The fields of `ViewsStripe`.)
+        // If the view is returned, then it is the view of stripe `number` over `bytes`, with the file's schema
+        // and stride, and its footer is a footer of the stripe in `bytes`. If `bytes` have a footer of this
+        // stripe, the view is returned with this footer, or the error is `OutOfMemory`. Any other error is
+        // `Stripe` with `number` and the reason, never `OutOfMemory`, why `bytes` aren't opened as this stripe.
         ensures { ViewsStripe self.now.tail number bytes.now result }
     {
         view_stripe(alloc, &self.tail, number, bytes)

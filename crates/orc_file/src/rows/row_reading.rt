@@ -46,11 +46,12 @@ impl<S: Source> OrcFile<S> {
         bytes: &'a [u8],
     ) -> Result<Vec<Row<'a>>, FileFault>
         requires { number < length self.now.tail.stripes }
-        // The rows that are answered are those that the stripe has by these bytes.
+        // If rows are returned, then `bytes` are stripe `number` with these rows.
         ensures found { IfOk result
             (λ rows. IsStripe self.now.tail.schema (stripe_at self.now.tail.stripes number) bytes.now
             (views rows.items)) }
-        // A refusal is want of memory, or it names the stripe and why it has no rows.
+        // An error is `OutOfMemory`, or `Stripe` with `number` and the reason, never `OutOfMemory`, why `bytes`
+        // are not this stripe with any rows.
         ensures fault { IfErr result (λ fault. (fault ≡ OutOfMemory)
             ⊎ ((why : StripeFault) × (fault ≡ Stripe number why) × (why ≢ stripe.OutOfMemory)
             × IsNoStripe self.now.tail.schema (stripe_at self.now.tail.stripes number) bytes.now why)) }
@@ -97,39 +98,44 @@ impl<S: Source> OrcFile<S> {
     /// its number where it has no rows, and why; `SourceFailed` where the source failed; `OutOfMemory`. Where it is
     /// `Stripe` the bytes are no file of any rows.
     pub fn rows(&mut self, alloc: Global) -> Result<Vec<Row<'static>>, FileFault>
-        // Where the source tells its bytes and the file's tail is theirs, the rows that are
-        // answered are the file's.
+        // If rows are returned, and the source's bytes are known and have the file's tail, then these bytes are
+        // a file with this tail and the returned rows.
         ensures found { IfOk result (λ rows. IfSome (S.told self.old.source) (λ bytes. IsTail bytes self.old.tail
             → FileIs bytes self.old.tail (views rows.items))) }
-        // Where rows are answered, no stripe is longer than the file's cap.
+        // If rows are returned, then no stripe is longer than the file's cap.
         ensures within { OnOk result (AllWithin self.old.cap self.old.tail.stripes) }
-        // Where the source tells bytes that are a file with rows, and no stripe is longer than the
-        // cap, these rows are answered, unless memory is refused or the source fails.
+        // If no stripe is longer than the file's cap, and the source's bytes are known and are a file with the
+        // file's tail and some rows, then these rows are returned, or the error is `OutOfMemory` or
+        // `SourceFailed`.
         ensures only { AllWithin self.old.cap self.old.tail.stripes
             → IfSome (S.told self.old.source) (λ bytes. (rows : List Cell) → FileIs bytes self.old.tail rows
             → MatchResult result (λ answered. views answered.items ≡ rows)
             (λ fault. (fault ≡ OutOfMemory) ⊎ (fault ≡ SourceFailed))) }
-        // After each answer the file has the tail and the cap that it had.
+        // The file keeps its tail and its cap.
         ensures tail { self.new.tail ≡ self.old.tail }
         ensures cap { self.new.cap ≡ self.old.cap }
 
-        // Where the source tells its bytes, a refusal is of the first stripe that is longer than
-        // the cap, by Limit, or has no rows, and why, or it is want of memory or SourceFailed.
+        // If the source's bytes are known, then an error is `OutOfMemory`, `SourceFailed`, or that of the first
+        // stripe that is longer than the file's cap or has no rows. That error is `Limit` if the stripe is
+        // longer than the cap, and otherwise `Stripe` with the stripe's number and the reason, never
+        // `OutOfMemory`, why it has no rows.
         ensures fault { IfErr result (λ fault. ReadFault (S.told self.old.source) fault
             (λ bytes. FirstCapped self.old.cap self.old.tail.schema bytes 0 self.old.tail.stripes fault)) }
-        // Limit comes only where a stripe is longer than the cap, also where the source tells
-        // nothing.
+        // If the error is `Limit`, then some stripe is longer than the file's cap, even if the source's bytes
+        // are unknown.
         ensures limit { IsErrOf result Limit → AllWithin self.old.cap self.old.tail.stripes → ⊥ }
-        // Over any source a refusal is SourceFailed, or no read failed and it is want of memory,
-        // Limit for a stripe above the cap, or a stripe's, for some bytes of its length.
+        // An error is `SourceFailed`, or the source's count of failures is unchanged and the error is one of
+        // three: `OutOfMemory`; `Limit`, if some stripe is longer than the file's cap; or `Stripe` with the
+        // number of a stripe that is no longer than the cap and the reason, never `OutOfMemory`, why some bytes
+        // of this stripe's length are not this stripe with any rows.
         ensures unfailed { IfErr result (λ fault. (fault ≡ SourceFailed)
             ⊎ (IsOfRows self.old.cap self.old.tail fault
             × (S.failures self.new.source ≡ S.failures self.old.source))) }
-        // With the greatest cap, as `open` gives it, no stripe is longer than the cap.
+        // If the file's cap is 2^64 - 1, as `OrcFile::open` makes it, then no stripe is longer than the cap.
         ensures uncapped { self.old.cap ≡ no_cap → AllWithin self.old.cap self.old.tail.stripes }
-        // After each answer the source tells what it told, and has the length that it had. Its
-        // count of failures rises with SourceFailed, and stands where rows are answered or memory
-        // is refused.
+        // The source has its former length, and the same is known of its bytes. The source's count of failures
+        // is unchanged if rows are returned or the error is `OutOfMemory`, and higher if the error is
+        // `SourceFailed`.
         ensures source { LeavesSource S.told S.size S.failures SourceFailed (λ fault. fault ≡ OutOfMemory)
             self.old.source self.new.source result }
     {

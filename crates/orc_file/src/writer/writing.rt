@@ -45,21 +45,22 @@ impl<W: Sink> Writer<W> {
         options: Options,
         out: W,
     ) -> Result<Writer<W>, (FileFault, W)>
-        // Where the output tells its bytes, a writer that is made has written `ORC`, and no row was
-        // pushed to it.
+        // If the writer is made, then no row is pushed to it, and its output has got exactly `ORC` if the
+        // output's bytes are known.
         ensures pushed { IfOk result (λ w. HasPushed (progress W.told w) (W.told out) []) }
-        // It has the schema and the options that were given, and has not failed.
+        // If the writer is made, then it has `schema` and `options`, and has not failed.
         ensures made { IfOk result (λ w. (w.schema ≡ schema) × (w.options ≡ options) × (w.failed ≡ false)) }
-        // Where the output tells its bytes, it has got as many as the writer counts.
+        // If the writer is made and the output's bytes are known, then the writer counts as many bytes as the
+        // output has got.
         ensures taken { IfOk result (λ w. HasTaken (W.told out) (W.told w.out) w.written) }
 
-        // A refusal is WriteFailed or want of memory.
+        // An error is `WriteFailed` or `OutOfMemory`.
         ensures refused { IfErr result (λ e. (e.0 ≡ fault.WriteFailed) ⊎ (e.0 ≡ fault.OutOfMemory)) }
-        // Where the output tells its bytes, what was written before a refusal is the front of a
-        // file without rows.
+        // If the call fails and the output's bytes are known, then the output has got a prefix of a file
+        // without rows.
         ensures cut { IfErr result (λ e. IsCutOff options schema (W.told out) (W.told e.1) []) }
-        // The output's count of failures rises with WriteFailed, and stands where a writer is made
-        // or memory is refused.
+        // The output's count of failures is unchanged if the writer is made or the error is `OutOfMemory`, and
+        // higher if the error is `WriteFailed`.
         ensures write_failed { IfErr result (λ e. e.0 ≡ fault.WriteFailed → W.failures out < W.failures e.1) }
         ensures memory { IfErr result (λ e. e.0 ≡ fault.OutOfMemory → W.failures e.1 ≡ W.failures out) }
         ensures no_failure { IfOk result (λ w. W.failures w.out ≡ W.failures out) }
@@ -349,16 +350,24 @@ impl<W: Sink> Writer<W> {
     /// many bytes, after which the writer has failed: what was written then is the front of a file of some
     /// of the rows pushed, this one among them.
     pub fn push_owned(&mut self, row: Row<'static>) -> Result<(), FileFault>
-        // Where the output tells its bytes, a push that succeeds adds its row behind those pushed;
-        // a stripe goes out with its last row, and not before.
+        // If the push succeeds, then the rows pushed are those pushed before, followed by `row`. The output has
+        // got exactly the full stripes of these rows if its bytes are known, and the writer keeps the other
+        // rows.
         ensures pushed { AddsRow (progress W.told self.old) (progress W.told self.new) (view row.entry) result }
-        // Failed is answered exactly where an earlier call failed, and else RowShape exactly where
-        // the row doesn't fit. Else passing a limit of stripes, rows or a column's cells is refused
-        // as Limit, which like Failed and RowShape leaves output, stripes, rows and counts as they
-        // were. A Limit after which the writer has failed, as it has after WriteFailed and want of
-        // memory, is that of the stripes' bytes. Where it fails by this push and the output tells
-        // its bytes, the front of a file is out. The output's count of failures rises with
-        // WriteFailed alone. Each of these is a field of `TakesRow`.
+        // The writer keeps its schema and its options. An error is `Failed`, `RowShape`, `Limit`, `WriteFailed`
+        // or `OutOfMemory`. `Failed` comes if and only if an earlier call failed. If none failed, `RowShape`
+        // comes if and only if `row` doesn't fit the schema. If none failed, `row` fits, and with `row` a limit
+        // of stripes, of rows or of a column's cells in a stripe would be passed, the error is `Limit` and the
+        // writer has not failed. The writer's counts pass such a limit if and only if the rows pushed do.
+        // `Limit` without the writer having failed comes only if such a limit would be passed. `Limit` after
+        // which the writer has failed comes only if `row` fills the open stripe and with this stripe the file's
+        // stripes would have more than 2^40 bytes. The writer has failed after `WriteFailed`, after
+        // `OutOfMemory` and if an earlier call failed; it has not failed after a success or `RowShape`. After
+        // an error by which the writer did not fail, its output, stripes, statistics, rows and counts are
+        // unchanged. If the writer fails by this push and the output's bytes are known, the output has got a
+        // prefix of a file of the first n of the rows pushed, `row` included, for some n. If the writer counted
+        // as many bytes as the output had got, it still does. The output's count of failures is higher if the
+        // error is `WriteFailed`, and otherwise unchanged.
         ensures takes { TakesRow W.told W.failures self.old self.new (view row.entry) result }
     {
         let pushed = self.push(&row);
@@ -375,16 +384,24 @@ impl<W: Sink> Writer<W> {
     /// many bytes, after which the writer has failed: what was written then is the front of a file of some
     /// of the rows pushed, this one among them.
     pub fn push(&mut self, row: &Row<'_>) -> Result<(), FileFault>
-        // Where the output tells its bytes, a push that succeeds adds its row behind those pushed;
-        // a stripe goes out with its last row, and not before.
+        // If the push succeeds, then the rows pushed are those pushed before, followed by `row`. The output has
+        // got exactly the full stripes of these rows if its bytes are known, and the writer keeps the other
+        // rows.
         ensures pushed { AddsRow (progress W.told self.old) (progress W.told self.new) (view row.now) result }
-        // Failed is answered exactly where an earlier call failed, and else RowShape exactly where
-        // the row doesn't fit. Else passing a limit of stripes, rows or a column's cells is refused
-        // as Limit, which like Failed and RowShape leaves output, stripes, rows and counts as they
-        // were. A Limit after which the writer has failed, as it has after WriteFailed and want of
-        // memory, is that of the stripes' bytes. Where it fails by this push and the output tells
-        // its bytes, the front of a file is out. The output's count of failures rises with
-        // WriteFailed alone. Each of these is a field of `TakesRow`.
+        // The writer keeps its schema and its options. An error is `Failed`, `RowShape`, `Limit`, `WriteFailed`
+        // or `OutOfMemory`. `Failed` comes if and only if an earlier call failed. If none failed, `RowShape`
+        // comes if and only if `row` doesn't fit the schema. If none failed, `row` fits, and with `row` a limit
+        // of stripes, of rows or of a column's cells in a stripe would be passed, the error is `Limit` and the
+        // writer has not failed. The writer's counts pass such a limit if and only if the rows pushed do.
+        // `Limit` without the writer having failed comes only if such a limit would be passed. `Limit` after
+        // which the writer has failed comes only if `row` fills the open stripe and with this stripe the file's
+        // stripes would have more than 2^40 bytes. The writer has failed after `WriteFailed`, after
+        // `OutOfMemory` and if an earlier call failed; it has not failed after a success or `RowShape`. After
+        // an error by which the writer did not fail, its output, stripes, statistics, rows and counts are
+        // unchanged. If the writer fails by this push and the output's bytes are known, the output has got a
+        // prefix of a file of the first n of the rows pushed, `row` included, for some n. If the writer counted
+        // as many bytes as the output had got, it still does. The output's count of failures is higher if the
+        // error is `WriteFailed`, and otherwise unchanged.
         ensures takes { TakesRow W.told W.failures self.old self.new (view row.now) result }
     {
         self.admit(row)?;
@@ -394,14 +411,16 @@ impl<W: Sink> Writer<W> {
     /// The row that was given away last, for its room alone, or null where there was none since the last call: whatever
     /// it says is no longer needed.
     pub fn spare_row(&mut self) -> Row<'static>
-        // What the writer has done so far stands, and so does what it counts, its output with it.
+        // What the writer has written, kept and counted is unchanged: its output, its stripes and their
+        // statistics, the rows of the open stripe, the counts of bytes, rows and cells, and whether it has
+        // failed.
         ensures progress { progress W.told self.new ≡ progress W.told self.old }
         ensures stays { (self.new.out ≡ self.old.out) × (self.new.written ≡ self.old.written)
             × (self.new.infos ≡ self.old.infos)
             × (self.new.stats ≡ self.old.stats) × (self.new.batch ≡ self.old.batch)
             × (self.new.counts ≡ self.old.counts)
             × (self.new.total ≡ self.old.total) × (self.new.failed ≡ self.old.failed) }
-        // It keeps its schema and its options.
+        // The writer keeps its schema and its options.
         ensures same { (self.new.schema ≡ self.old.schema) × (self.new.options ≡ self.old.options) }
     {
         self.spare.take()
@@ -409,7 +428,7 @@ impl<W: Sink> Writer<W> {
 
     /// The schema of its rows.
     pub fn schema(&self) -> &Schema
-        // What is lent is the writer's schema.
+        // Returns the writer's schema.
         ensures { result.now ≡ self.now.schema }
     {
         &self.schema
@@ -417,7 +436,7 @@ impl<W: Sink> Writer<W> {
 
     /// The output as it stands. The rows that are kept aren't written, nor is a tail.
     pub fn into_out(self) -> W
-        // The output is the writer's, as it stands.
+        // Returns the writer's output as it is.
         ensures { result ≡ self.out }
     {
         self.out
@@ -457,37 +476,37 @@ impl<W: Sink> Writer<W> {
     /// Refusals: `Failed`, where an earlier call failed; `WriteFailed`, `OutOfMemory`, and `Limit` where the
     /// file's stripes would have too many bytes.
     pub fn finish(self) -> Result<(Tail, W), (FileFault, W)>
-        // Where the output tells its bytes and the call succeeds, it has got the file that is
-        // written of the rows pushed, with the tail that is answered.
+        // If the call succeeds and the output's bytes are known, then the output has got the file that is
+        // written of the rows pushed, and this file's tail is returned. The file has fewer than 2^64 bytes.
         ensures whole { (first : Option (List ℕ)) (rows : List Cell)
             → HasPushed (progress W.told self) first rows
             → IfOk result (λ done. IsWhole self.options self.schema done.0 first (W.told done.1) rows) }
 
-        // Failed is answered exactly where an earlier call failed, and the output comes back as it
-        // was.
+        // The error is `Failed` if and only if an earlier call failed, and with it the output is returned
+        // unchanged.
         ensures failed { IfErr result (λ e. e.0 ≡ fault.Failed → self.failed ≡ true) }
         ensures stands { self.failed ≡ true → MatchResult result (λ _. ⊥)
             (λ e. (e.0 ≡ fault.Failed) × (e.1 ≡ self.out)) }
-        // Limit comes only where a row is kept and the stripe of those kept would pass the limit of
-        // the stripes' bytes.
+        // If the error is `Limit`, then the open stripe has a row, and with this stripe the file's stripes
+        // would have more than 2^40 bytes.
         ensures long { IfErr result (λ e. e.0 ≡ fault.Limit
             → PassesBytes self.options self.schema self.infos.items (kept_rows self.schema self.batch)) }
         ensures begun { IfErr result (λ e. e.0 ≡ fault.Limit → 0 < length (kept_rows self.schema self.batch)) }
-        // A refusal is Failed, Limit, WriteFailed or want of memory.
+        // An error is `Failed`, `Limit`, `WriteFailed` or `OutOfMemory`.
         ensures refused { IfErr result (λ e. (e.0 ≡ fault.Failed)
             ⊎ ((e.0 ≡ fault.Limit) ⊎ ((e.0 ≡ fault.WriteFailed) ⊎ (e.0 ≡ fault.OutOfMemory)))) }
-        // Where the output tells its bytes and no earlier call failed, what was written before a
-        // refusal is the front of a file of the first rows pushed, for some number of them.
+        // If the call fails, no earlier call failed and the output's bytes are known, then the output has got a
+        // prefix of a file of the first n rows pushed, for some n.
         ensures cut { (first : Option (List ℕ)) (rows : List Cell)
             → HasPushed (progress W.told self) first rows
             → self.failed ≡ false
             → IfErr result (λ e. IsCutOff self.options self.schema first (W.told e.1) rows) }
-        // The output's count of failures rises with WriteFailed, and stands where the call succeeds
-        // or memory is refused.
+        // The output's count of failures is unchanged if the call succeeds or the error is `OutOfMemory`, and
+        // higher if the error is `WriteFailed`.
         ensures write_failed { IfErr result (λ e. e.0 ≡ fault.WriteFailed → W.failures self.out < W.failures e.1) }
         ensures memory { IfErr result (λ e. e.0 ≡ fault.OutOfMemory → W.failures e.1 ≡ W.failures self.out) }
         ensures no_failure { IfOk result (λ done. W.failures done.1 ≡ W.failures self.out) }
-        // With every other refusal than WriteFailed the output's count of failures stands.
+        // If the error is not `WriteFailed`, then the output's count of failures is unchanged.
         ensures unfailed { IfErr result
             (λ e. (e.0 ≡ fault.WriteFailed) ⊎ (W.failures e.1 ≡ W.failures self.out)) }
     {
