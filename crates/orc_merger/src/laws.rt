@@ -33,48 +33,53 @@ ghost use Rattle.orc_merger.specs.Grouping.{Groups, merge, all_leaves, Gives, Al
 /// So where a grouping was merged step by step, all inputs can be merged at once, and two groupings of one list of
 /// inputs gave one file.
 pub fn grouping()
-    // Where what the steps below the root give has fewer than 2^64 bytes and the inputs have a
-    // merged file, every grouping gives that file.
+    // If the inputs of a grouping have a merged file, and each file that a step below the root gives has fewer
+    // than 2^64 bytes, then the grouping gives this merged file.
     ensures same { (groups : Groups) (tail : Tail) (out : List ℕ)
         → AllShort groups → IsMerge (all_leaves groups) tail out
         → Gives (merge groups) out }
-    // Under the same premises a grouping gives no other file.
+    // If the inputs of a grouping have a merged file, and each file that a step below the root gives has fewer
+    // than 2^64 bytes, then the grouping gives no other file than this merged file.
     ensures one { (groups : Groups) (tail : Tail) (out other : List ℕ)
         → AllShort groups → IsMerge (all_leaves groups) tail out
         → Gives (merge groups) other
         → other ≡ out }
-    // Where what the steps below the root give has fewer than 2^64 bytes, what a grouping gives is
-    // the merged file of all inputs at once.
+    // If a grouping gives a file, and each file that a step below the root gives has fewer than 2^64 bytes,
+    // then this file is the merged file of all inputs of the grouping.
     ensures back { (groups : Groups) (out : List ℕ)
         → AllShort groups → Gives (merge groups) out
         → (tail : Tail) × IsMerge (all_leaves groups) tail out }
 
-    // Where each step below wrote what the last `merge` joined, and this answered Ok, the whole is
-    // a grouping that wrote what went out.
+    // If each step of a grouping below the root wrote its file, and a `merge` of these files succeeded, then
+    // the whole grouping wrote a file, and the output of that `merge` has got exactly this file if its bytes
+    // are known.
     ensures step { (groups : Groups) (files : List (List ℕ)) (tail : Tail) (old new : Option (List ℕ))
         → AllWrote groups files
         → WroteMerge files tail old new → (out : List ℕ) × Wrote (merge groups) out × (new ≡ appended old out) }
-    // What a grouping wrote step by step it gives, and what its steps gave has fewer than 2^64
-    // bytes.
+    // If each step of a grouping wrote its file, then the grouping gives the file that its last step wrote, and
+    // each file that a step below the root gives has fewer than 2^64 bytes.
     ensures wrote { (groups : Groups) (out : List ℕ)
         → Wrote (merge groups) out
         → AllShort groups × Gives (merge groups) out }
-    // Two groupings of one list of inputs, each step of which wrote its file, wrote the same bytes.
+    // If each step of two groupings of one list of inputs wrote its file, then both groupings wrote the same
+    // bytes.
     ensures alike { (groups others : Groups) (out other : List ℕ) → all_leaves others ≡ all_leaves groups
         → Wrote (merge groups) out → Wrote (merge others) other → other ≡ out }
 
-    // A merged file with fewer than 2^64 bytes is accepted, with the merged tail.
+    // If a merged file has fewer than 2^64 bytes, then it opens with the merged tail.
     ensures accepted { (inputs : List (List ℕ)) (tail : Tail) (out : List ℕ)
         → IsMerge inputs tail out → length out < 2 ^ 64
         → IsTail out tail }
-    // Where each input has rows, the rows of a merged file with fewer than 2^64 bytes are the
-    // inputs' rows in their order.
+    // If each input is a file with rows, and their merged file has fewer than 2^64 bytes, then the merged file
+    // is a file with the merged tail and the inputs' rows, in order.
     ensures rows { (inputs : List (List ℕ)) (tail : Tail) (out : List ℕ) (parts : List (List Cell))
         → IsMerge inputs tail out → length out < 2 ^ 64
         → HaveRows inputs parts → FileIs out tail (rows.joined parts) }
 
-    // Where the inputs are files of one kind, and what steps below the root give has fewer than
-    // 2^64 bytes, all at once are refused for user metadata or a limit just where some step is.
+    // If the inputs of a grouping are files with one schema, version, writer, stride and other footer fields,
+    // and with all stripe statistics, and each file that a step below the root gives has fewer than 2^64 bytes,
+    // then one merge of all inputs is refused with `UserMetadataConflict` or `Limit` if and only if some step
+    // of the grouping is.
     ensures refused { (groups : Groups) → AllShort groups
         → AreFellows (all_leaves groups)
         → IsFlatRefused groups ↔ IsStepRefused groups }
@@ -86,40 +91,45 @@ pub fn grouping()
 /// of all rows fits 64 bits, however little of children is told: where less of them is told no sum changes, and of a
 /// column that isn't of lists or maps nothing does.
 pub fn orders()
-    // Joined statistics are the same for every order.
+    // If statistics are a permutation of other statistics, then joining them gives the same statistic.
     ensures joined { (k : StatKind) (stats others : List Stat)
         → IsPermutation stats others
         → joined k others ≡ joined k stats }
-    // What can be merged can be merged in every order.
+    // If inputs have a merged file, then the inputs in any order have a merged file.
     ensures exists { (inputs others : List (List ℕ)) (tail : Tail) (out : List ℕ)
         → IsPermutation inputs others → IsMerge inputs tail out
         → (other : Tail) × (bytes : List ℕ) × IsMerge others other bytes }
-    // In every order the statistics of the whole file are the same.
+    // If inputs have a merged file, and so has a permutation of them, then both merged files have the same file
+    // statistics.
     ensures merged { (inputs others : List (List ℕ)) (tail other : Tail) (out bytes : List ℕ)
         → IsPermutation inputs others → IsMerge inputs tail out
         → IsMerge others other bytes → tail.file_stats ≡ other.file_stats }
 
-    // Where the inputs' stripe statistics agree with those of their rows, so do the merged file's.
+    // If inputs have a merged file, and each input is a file whose stripe statistics are those of its rows,
+    // then the stripe statistics of the merged tail are those of the inputs' rows, in order. Element counts may
+    // be missing in all of them.
     ensures honest { (inputs : List (List ℕ)) (tail : Tail) (out : List ℕ) (parts : List (List Cell))
         → IsMerge inputs tail out
         → AreHonestFiles inputs parts → Honest tail (rows.joined parts) }
-    // Then its file statistics are those of all rows, less a sum where the total of some stripe
-    // doesn't fit 64 bits, and less the parts of children that a stripe with a value doesn't tell.
+    // If inputs have a merged file, and each input is a file whose stripe statistics are those of its rows
+    // (element counts may be missing), then the merged tail's file statistics are those of all the inputs'
+    // rows, with two exceptions. A sum is missing if the sum of some stripe doesn't fit 64 bits. An element
+    // count is missing if it is missing for some stripe with a value in that column.
     ensures whole { (inputs : List (List ℕ)) (tail : Tail) (out : List ℕ) (parts : List (List Cell))
         → IsMerge inputs tail out → AreHonestFiles inputs parts
         → HasWholeStats tail (rows.joined parts) }
-    // A sum stands exactly where that of each stripe that has values does and the total of all rows
-    // fits 64 bits.
+    // The joined statistic of several stripes has a sum if and only if the sum of each stripe with values and
+    // the sum of all their rows fit 64 bits. A statistic of a kind without sums counts as having one.
     ensures sum { (k : StatKind) (stripes : List (List Cell))
         → has_sum (whole k stripes).body
         ≡ (list_all (λ rows. keeps_sum (stat k rows)) stripes
         && has_sum (stat k (flat_map (λ rows. rows) stripes)).body) }
-    // However little of children the stripes tell, a sum stands there just where it does where they
-    // tell all.
+    // Whether the joined statistic of several stripes has a sum doesn't depend on which element counts the
+    // stripes have.
     ensures known { (k : StatKind) (stripes : List Part)
         → has_sum (known_whole k stripes).body ≡ has_sum (whole k (part_cells stripes)).body }
-    // Of a column of another kind than lists and maps the statistic is the same, whatever the
-    // stripes tell.
+    // If a statistic is not that of lists or maps, then the joined statistic of several stripes doesn't depend
+    // on which element counts the stripes have.
     ensures known_else { (k : StatKind) (stripes : List Part)
         → (k ≡ Children → ⊥) → known_whole k stripes ≡ whole k (part_cells stripes) }
 {}
@@ -128,22 +138,23 @@ pub fn orders()
 /// refused. One fault is the first, but that what is wrong with a file's types may be said in several ways. Where that
 /// is a limit, the inputs up to the one that it names have too many stripes, bytes, rows or values of a column together.
 pub fn outcomes()
-    // Inputs have one merged file at most, with one tail.
+    // Inputs have at most one merged file, with one tail.
     ensures one { (inputs : List (List ℕ)) (tail other : Tail) (out bytes : List ℕ)
         → IsMerge inputs tail out → IsMerge inputs other bytes
         → (other ≡ tail) × (bytes ≡ out) }
-    // Inputs of bytes, each below 256, have a merged file, or they are refused for a fault.
+    // If each input is a list of bytes below 256, then the inputs have a merged file or are refused with a
+    // fault.
     ensures cover { (inputs : List (List ℕ)) → AllByRecursion AllBytes inputs
         → ((tail : Tail) × (out : List ℕ) × IsMerge inputs tail out) ⊎ ((fault : MergeFault) × IsRefused inputs fault) }
-    // Inputs that are refused for a fault have no merged file.
+    // If inputs are refused with a fault, then they have no merged file.
     ensures none { (inputs : List (List ℕ)) (tail : Tail) (out : List ℕ) (fault : MergeFault)
         → IsMerge inputs tail out → IsRefused inputs fault → ⊥ }
-    // One fault is the first, but that what is wrong with a file's types may be said in several
-    // ways.
+    // If inputs are refused with two faults, then these are equal, or both are `File` with the same input and
+    // with `BadTypes`.
     ensures single { (inputs : List (List ℕ)) (e f : MergeFault)
         → IsRefused inputs e → IsRefused inputs f → AreOne e f }
-    // Limit(i) comes only where the first i + 1 inputs, which are files, have together more than
-    // 65,536 stripes, 2^40 bytes of stripes, 2^40 rows or, in some column, 2^62 values.
+    // If inputs are refused with `Limit(i)`, then the first i + 1 inputs are files that together exceed 65,536
+    // stripes, 2^40 bytes of stripes, 2^40 rows or, in some column, 2^62 values.
     ensures limit { (inputs : List (List ℕ)) (i : ℕ) → IsRefused inputs (Limit i)
         → (tails : List Tail) × AreOpened (take (i + 1) inputs) tails × (AreFew tails → ⊥) }
 {}

@@ -24,43 +24,45 @@ pub fn merge<S: Source, W: Sink>(
     inputs: &mut [S],
     out: &mut W,
 ) -> Result<Tail, MergeFault>
-    // Where the sources and the output tell their bytes and merging succeeds, the inputs' merged
-    // file went out, with fewer than 2^64 bytes, and its tail is answered.
+    // If merging succeeds and all sources' bytes are known, then the inputs have a merged file of fewer than
+    // 2^64 bytes, and its tail is returned. The output has got exactly this file if the output's bytes are
+    // known.
     ensures merged { IfOk result (λ tail. (files : List (List ℕ)) → map S.told inputs.old ≡ map Some files
         → WroteMerge files tail (W.told out.old) (W.told out.new)) }
 
-    // Where the sources tell their bytes, a refusal is the first fault of the inputs, or it is
-    // SourceFailed, WriteFailed or want of memory.
+    // If all sources' bytes are known, then an error is `SourceFailed`, `WriteFailed`, `OutOfMemory`, or the
+    // first fault of the inputs.
     ensures refused { IfErr result (λ e. (files : List (List ℕ))
         → map S.told inputs.old ≡ map Some files → IsAnswer files e) }
-    // Where the refusal is neither SourceFailed nor WriteFailed nor want of memory, what the output
-    // tells is as it was.
+    // If the error is neither `SourceFailed` nor `WriteFailed` nor `OutOfMemory`, then the output's bytes are
+    // unchanged if they are known.
     ensures nothing { IfErr result (λ e. (IsDeviceFault e → ⊥) → W.told out.new ≡ W.told out.old) }
-    // Where the sources and the output tell their bytes and merging is refused, nothing was
-    // written, or a front of the merged file.
+    // If merging fails and the bytes of all sources and of the output are known, then the output has got
+    // nothing or a prefix of the inputs' merged file.
     ensures some { IfErr result (λ e. (files : List (List ℕ))
         → map S.told inputs.old ≡ map Some files
         → WrotePart files (W.told out.old) (W.told out.new)) }
-    // Where memory ran out, what the output tells is as it was, and no count of failures rose.
+    // If the error is `OutOfMemory`, then the output's bytes are unchanged if they are known, and the counts of
+    // failures of the output and of all sources are unchanged.
     ensures memory { IsErrOf result MergeFault.OutOfMemory
         → (W.told out.new ≡ W.told out.old) × (W.failures out.new ≡ W.failures out.old)
         × (map S.failures inputs.new ≡ map S.failures inputs.old) }
 
-    // The sources tell what they told.
+    // The same is known of the sources' bytes as before.
     ensures told { map S.told inputs.new ≡ map S.told inputs.old }
-    // Where merging succeeds, no count of failures rose: no input's and not the output's.
+    // If merging succeeds, then the counts of failures of all sources and of the output are unchanged.
     ensures kept { OnOk result ((map S.failures inputs.new ≡ map S.failures inputs.old)
         × (W.failures out.new ≡ W.failures out.old)) }
-    // SourceFailed comes only where the count of failures of the input that it names rose.
+    // If the error is `SourceFailed(i)`, then the count of failures of source i is higher than before.
     ensures source_failed { (i : ℕ) → IsErrOf result (MergeFault.SourceFailed i)
         → slice_index (map S.failures inputs.old) i < slice_index (map S.failures inputs.new) i }
-    // The fault of an input is one of its bytes: it is never want of memory nor that its source
-    // failed.
+    // If the error is `File(i, why)`, then `why` is neither `OutOfMemory` nor `SourceFailed`.
     ensures file { (i : ℕ) (why : FileFault) → IsErrOf result (MergeFault.File i why) → IsOfBytes why }
-    // Whatever is told, a refusal is NoInput just where there is no input; a number is an input's,
-    // and of a difference not the first's; a file's fault is one that a tail may have.
+    // An error is `NoInput` if and only if there is no input. The number in an error is that of an input, and
+    // in `SchemaDiffers`, `VersionDiffers`, `StrideDiffers` and `OtherFooterFields` never that of the first
+    // input. The fault in `File` is that of a test of a tail.
     ensures named { IfErr result (λ e. IsOfMerge (length inputs.old) e) }
-    // WriteFailed comes only where the output's count of failures rose.
+    // If the error is `WriteFailed`, then the output's count of failures is higher than before.
     ensures write_failed { IsErrOf result MergeFault.WriteFailed → W.failures out.old < W.failures out.new }
 {
     let (tail, pieces) = match gather(alloc, inputs) {
