@@ -73,25 +73,26 @@ fn check_tail<S: Source>(
 /// why; `SourceFailed`, and no other, where the source failed; `OutOfMemory`. But for the last two the bytes
 /// are no file of any rows.
 pub fn check<S: Source>(alloc: Global, source: &mut S) -> Result<Vec<Finding>, FileFault>
-    // Where the source tells its bytes, they are a file of rows, and the findings that are answered
-    // are all the file's, in order, and no others.
+    // If findings are returned and the source's bytes are known, then these bytes are a file with rows, and the
+    // returned findings are exactly those of this file, in order.
     ensures found { IfOk result (λ found. IfSome (S.told source.old)
         (λ bytes. (tail : Tail) × (rows : List Cell) × FileIs bytes tail rows
         × Findings bytes tail rows found.items)) }
-    // Where the source tells its bytes and they are a file of rows, its findings are answered,
-    // unless memory is refused or the source fails.
+    // If the source's bytes are known and are a file with rows, then the findings of this file are returned, or
+    // the error is `OutOfMemory` or `SourceFailed`.
     ensures only { IfSome (S.told source.old) (λ bytes. (tail : Tail) (rows : List Cell) → FileIs bytes tail rows
         → MatchResult result
         (λ answered. Findings bytes tail rows answered.items)
         (λ fault. (fault ≡ OutOfMemory) ⊎ (fault ≡ SourceFailed))) }
-    // Where the source tells its bytes, a refusal is SourceFailed, want of memory, or stands: that
-    // of opening, or of the first stripe that has no rows, with its number and why.
+    // If the source's bytes are known, then an error is `OutOfMemory`, `SourceFailed`, the fault of the first
+    // test of a tail that the bytes fail, or `Stripe` with the number of the first stripe that has no rows and
+    // the reason, never `OutOfMemory`, why it has none.
     ensures fault { IfErr result (λ fault. ReadFault (S.told source.old) fault (λ bytes. CheckFault bytes fault)) }
-    // Whatever is told, a refusal is SourceFailed, one that a tail may have, want of memory, or
-    // Stripe with a number below 65,536 and a reason for which bytes are no stripe.
+    // An error is `SourceFailed`, `OutOfMemory`, the fault of a test of a tail, or `Stripe` with a number below
+    // 65,536 and a reason, never `OutOfMemory`, why some bytes are not a stripe with any rows.
     ensures named { IfErr result (λ fault. (fault ≡ SourceFailed) ⊎ IsOfCheck fault) }
-    // After each answer the source tells what it told, and is as long. Its count of failures rose
-    // where the refusal is SourceFailed, and nowhere else.
+    // The source has its former length, and the same is known of its bytes. The source's count of failures is
+    // higher if the error is `SourceFailed`, and otherwise unchanged.
     ensures source { LeavesSource S.told S.size S.failures SourceFailed (λ fault. fault ≡ OutOfMemory)
         source.old source.new result }
     ensures unfailed { IfErr result (λ fault. (fault ≡ SourceFailed)

@@ -19,20 +19,24 @@ use orc_stripe::group_laws;
 /// for parts of children that they don't know, and, in a file with a stride, each column of each stripe has a
 /// row index of which the same holds. Nothing is found of a file as it is written.
 pub fn finding_laws()
-    // Of a file one list of findings stands at most.
+    // A file has at most one list of findings.
     ensures one { (bytes : List ℕ) (tail : Tail) (rows : List Cell) (a b : List Finding)
         → Findings bytes tail rows a → Findings bytes tail rows b
         → a ≡ b }
-    // Where the bytes are a file of the rows, a finding is in the list exactly where what it says
-    // of the file is so.
+    // If bytes are a file with rows, and a list has the file's findings, then a finding is in this list if and
+    // only if it is true of the file.
     ensures each { (bytes : List ℕ) (tail : Tail) (rows : List Cell) (found : List Finding) (finding : Finding)
         → FileIs bytes tail rows → Findings bytes tail rows found
         → Contains found finding ↔ IsSo bytes tail (cut_rows tail.stripes rows) finding }
-    // Nothing is found of a file of rows exactly where its statistics, of stripes and of all rows,
-    // agree with the rows, and with a stride each column of each stripe has an index that is right.
+    // If bytes are a file with rows, then the file has no findings if and only if its stripe statistics are
+    // those of the stripes' rows, its file statistics are those of all rows, and, if its stride is above 0,
+    // each column of each stripe has a row index with one entry for each group, with the group's statistic and
+    // positions. Element counts may be missing in all these statistics, and a file statistic has no sum if the
+    // sum of some stripe doesn't fit 64 bits.
     ensures none { (bytes : List ℕ) (tail : Tail) (rows : List Cell) → FileIs bytes tail rows
         → Findings bytes tail rows [] ↔ (Honest tail rows × TellsWhole tail rows × HasIndexes bytes tail rows) }
-    // Nothing is found of a file that a writer wrote, with any stride.
+    // If bytes are laid out as a writer writes a file of some rows, with any stride, and are a file with these
+    // rows, then the file has no findings.
     ensures written { (options : Options) (s : Shape) (tail : Tail) (bytes : List ℕ) (rows : List Cell)
         → IsWrittenFile options s tail bytes rows
         → FileIs bytes tail rows → Findings bytes tail rows [] }
@@ -42,8 +46,8 @@ pub fn finding_laws()
 /// all that `cursor_at` asks to stand for the stripe's rows from the group's first one on and to be refused for
 /// memory alone.
 pub fn start_laws()
-    // Where nothing is found of a file of rows, each stripe starts at each of its groups, as
-    // `cursor_at` asks for.
+    // If a file with rows has no findings, then each of its stripes starts at each of its groups, as
+    // `cursor_at` requires.
     ensures { (bytes : List ℕ) (tail : Tail) (rows : List Cell)
         → FileIs bytes tail rows → Findings bytes tail rows []
         → StartsAtGroups bytes tail rows }
