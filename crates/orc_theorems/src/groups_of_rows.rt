@@ -31,21 +31,21 @@ use orc_cli_check::place_laws;
 /// on. So it may in each file that is merged of such files, in whatever groups. What stands in the streams before the
 /// group's offsets has no part in it: a stripe that differs from one of such a file there alone gives the same rows.
 pub fn reading_from_the_middle()
-    // Where nothing is found of a file of rows, each stripe starts at each of its groups, as a
-    // cursor asks for that enters it there.
+    // If a file with rows has no findings, then each of its stripes starts at each of its groups, as
+    // `cursor_at` requires.
     ensures starts { (bytes : List ℕ) (tail : Tail) (rows : List Cell)
         → (it_is_a_file_of_the_rows : FileIs bytes tail rows)
         → (nothing_is_found_of_it : Findings bytes tail rows [])
         → StartsAtGroups bytes tail rows }
-    // What is printed of such a file from a group of a stripe on is its rows from the group's first
-    // one on.
+    // If a file with rows has no findings, then lines that are printed of it from a group of a stripe on are
+    // those of the file's rows from the group's first row on.
     ensures lines { (bytes : List ℕ) (tail : Tail) (rows : List Cell) (stripe group : ℕ) (lines : List ℕ)
         → (it_is_a_file_of_the_rows : FileIs bytes tail rows)
         → (nothing_is_found_of_it : Findings bytes tail rows [])
         → (these_are_printed : AreFrom bytes tail stripe group lines)
         → lines ≡ row_lines tail.schema (drop (rows_before tail stripe group) rows) }
-    // Where the group is there and the rows have JSON, printing them is refused for nothing that is
-    // the file's.
+    // If a file with rows has no findings, the stripe has the group, and the rows have JSON, then printing the
+    // file from this group on fails only with `WriteFailed`, `SourceFailed` or `OutOfMemory`.
     ensures only { (bytes : List ℕ) (tail : Tail) (rows : List Cell) (stripe group : ℕ) (old new : Option (List ℕ))
         (fault : CliFault)
         → (it_is_a_file_of_the_rows : FileIs bytes tail rows)
@@ -54,8 +54,10 @@ pub fn reading_from_the_middle()
         → (the_rows_have_json : HaveJson tail.schema rows)
         → (it_is_refused : EndsFrom bytes tail stripe group old new fault)
         → IsOutsideFile fault }
-    // What was merged of such files, in whatever groups, where each merge answered Ok, has all
-    // their rows, in order, and is such a file again.
+    // If each merge of a grouping wrote its file, and each file of the grouping has rows and no findings, then
+    // the merged file has all these rows, in order, and no findings. Each of its stripes starts at each of its
+    // groups, and lines that are printed of it from a group on are those of its rows from the group's first row
+    // on.
     ensures merged { (groups : Groups) (out : List ℕ) (parts : List (List Cell))
         → (each_merge_wrote : Wrote (merge groups) out)
         → (nothing_is_found_of_the_files : AreWithoutFinding (all_leaves groups) parts)
@@ -64,27 +66,33 @@ pub fn reading_from_the_middle()
         × ((stripe group : ℕ) (lines : List ℕ) → AreFrom out tail stripe group lines
         → lines ≡ row_lines tail.schema (drop (rows_before tail stripe group) (joined parts))) }
 
-    // A stripe that differs only before a group's offsets from one that starts at the group starts
-    // there, too, with the same rows.
+    // If a stripe starts at a group with some rows, and other bytes differ from the stripe's only before the
+    // offsets that the group's index entries record, then the stripe with these other bytes starts at the group
+    // with the same rows.
     ensures alone { (view : Opened) (x : ℕ → Streams) (rows : List Cell) (group : ℕ) (bytes : List ℕ)
         → (the_stripe_starts_at_the_group : StartsGroup view x rows group)
         → (these_bytes_differ_only_before_it : DiffersOnlyBefore view group bytes)
         → StartsGroup (with_bytes view bytes) x rows group }
-    // It has the same footer.
+    // If bytes differ from a stripe's only before the offsets that a group's index entries record, then these
+    // bytes have the stripe's footer.
     ensures footer { (view : Opened) (group : ℕ) (bytes : List ℕ)
         → (the_stripe_has_its_footer : HasFooter view.schema view.info view.bytes view.footer)
         → (these_bytes_differ_only_before_the_group : DiffersOnlyBefore view group bytes)
         → HasFooter view.schema view.info bytes view.footer }
-    // So what is printed from the group on of a file that differs so, in that stripe and none
-    // behind it, from one of which nothing is found is the rows of that one from there on.
+    // If a file with rows has no findings, and another file with the same tail differs from it, in a stripe and
+    // all later ones, only before the offsets that a group's index entries record in that stripe, then lines
+    // that are printed of the other file from this group on are those of the first file's rows from the group's
+    // first row on.
     ensures lines_alone { (bytes other : List ℕ) (tail : Tail) (rows : List Cell) (stripe group : ℕ) (lines : List ℕ)
         → (it_is_a_file_of_the_rows : FileIs bytes tail rows)
         → (nothing_is_found_of_it : Findings bytes tail rows [])
         → (another_differs_only_before_the_group : FileDiffersOnlyBefore bytes tail stripe group other)
         → (these_are_printed_of_the_other : AreFrom other tail stripe group lines)
         → lines ≡ row_lines tail.schema (drop (rows_before tail stripe group) rows) }
-    // Where the group is there and the rows have JSON, printing them is refused for nothing that is
-    // that other file's.
+    // If a file with rows that have JSON has no findings, a stripe of it has a group, and another file with the
+    // same tail differs from it, in that stripe and all later ones, only before the offsets that the group's
+    // index entries record, then printing the other file from this group on fails only with `WriteFailed`,
+    // `SourceFailed` or `OutOfMemory`.
     ensures only_alone { (bytes other : List ℕ) (tail : Tail) (rows : List Cell) (stripe group : ℕ)
         (old new : Option (List ℕ)) (fault : CliFault)
         → (it_is_a_file_of_the_rows : FileIs bytes tail rows)

@@ -34,18 +34,19 @@ pub fn print_from<W: Write>(
     from: &str,
     out: &mut W,
 ) -> Result<bool, CliFault>
-    // Where true is answered, the bytes are a file of rows, and an output that tells its bytes has
-    // got the lines of those from the named group's first one on, and nothing else.
+    // If true is returned, then `bytes` are a file with rows, `from` names a stripe and a group, and the output
+    // has got exactly the lines of the file's rows from the group's first row on if the output's bytes are
+    // known.
     ensures lines { IfOk result (λ printed. IsTrue printed
         → (tail : Tail) × (rows : List Cell) × (stripe : ℕ) × (group : ℕ)
         × FileIs bytes.now tail rows × IsStart from.now stripe group
         × Appends (W.contents out.old) (W.contents out.new)
         (row_lines tail.schema (drop (rows_before tail stripe group) rows))) }
-    // False is answered only where something is found of the file.
+    // If false is returned, then `bytes` are a file with rows and with at least one finding.
     ensures found { IfOk result (λ printed. printed ≡ false
         → (found : List Finding) × AreFound bytes.now found × (found ≢ [])) }
-    // Where the bytes are a file of rows that have JSON, and the named group is there, a refusal is
-    // for the output, the source or memory alone.
+    // If `bytes` are a file with rows that have JSON, and `from` names a stripe and a group that the file has,
+    // then an error is `WriteFailed`, `SourceFailed` or `OutOfMemory`.
     ensures only { IfErr result (λ e. (tail : Tail) (rows : List Cell) (stripe group : ℕ)
         → FileIs bytes.now tail rows → HaveJson tail.schema rows
         → IsStart from.now stripe group
@@ -77,8 +78,11 @@ pub fn print_other_from<W: Write>(
     from: &str,
     out: &mut W,
 ) -> Result<bool, CliFault>
-    // Where true is answered, the other's lines from the group on are out; they are the first
-    // one's, if it has that tail and the other differs from that stripe on only before the offsets.
+    // If true is returned, then `other` has a tail, `from` names a stripe and a group, and the output has got
+    // exactly the lines of `other` from this group on if the output's bytes are known. If `checked` is a file
+    // with this tail and rows, and `other` differs from it, in that stripe and all later ones, only before the
+    // offsets that the group's index entries record, these are the lines of the rows of `checked` from the
+    // group's first row on.
     ensures lines { IfOk result (λ printed. IsTrue printed
         → (tail : Tail) × (lines : List ℕ) × (stripe : ℕ) × (group : ℕ)
         × IsTail other.now tail × IsStart from.now stripe group
@@ -87,7 +91,7 @@ pub fn print_other_from<W: Write>(
         × ((rows : List Cell) → FileIs checked.now tail rows
         → FileDiffersOnlyBefore checked.now tail stripe group other.now
         → lines ≡ row_lines tail.schema (drop (rows_before tail stripe group) rows))) }
-    // False is answered only where something is found of the first file.
+    // If false is returned, then `checked` is a file with rows and with at least one finding.
     ensures found { IfOk result (λ printed. printed ≡ false
         → (found : List Finding) × AreFound checked.now found × (found ≢ [])) }
 {

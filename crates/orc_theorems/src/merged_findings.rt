@@ -20,14 +20,15 @@ use orc_merger::{grouping, orders};
 /// this holds of what is merged in groups, however deep: and reading from a group of rows, which is right in the
 /// inputs, is right in what is merged of them.
 pub fn findings_of_merges()
-    // A file with fewer than 2^64 bytes that is merged of files of which nothing is found is a file
-    // of their rows, in order, and nothing is found of it.
+    // If a merged file has fewer than 2^64 bytes, and each input is a file with rows and no findings, then the
+    // merged file has the merged tail, the inputs' rows, in order, and no findings.
     ensures merged { (files : List (List ℕ)) (tail : Tail) (out : List ℕ) (parts : List (List Cell))
         → (it_is_their_merge : IsMerge files tail out)
         → (it_has_fewer_than_2_64_bytes : length out < 2 ^ 64)
         → (nothing_is_found_of_the_files : AreWithoutFinding files parts)
         → FileIs out tail (joined parts) × Findings out tail (joined parts) [] }
-    // So it is of what a grouping of such files wrote, however deep, where each merge answered Ok.
+    // If each merge of a grouping wrote its file, and each file of the grouping has rows and no findings, then
+    // the grouping wrote a file with all these rows, in order, and no findings.
     ensures grouped { (groups : Groups) (out : List ℕ) (parts : List (List Cell))
         → (each_merge_wrote : Wrote (merge groups) out)
         → (nothing_is_found_of_the_files : AreWithoutFinding (all_leaves groups) parts)

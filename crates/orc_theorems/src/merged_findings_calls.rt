@@ -38,15 +38,19 @@ pub(crate) fn found_in(alloc: Global, bytes: &[u8]) -> Result<Vec<Finding>, File
 ///
 /// Refusals: those of `check` and of `merge`, of one of its four calls.
 pub fn join_checked(alloc: Global, first: &[u8], second: &[u8]) -> Result<CheckedJoin, CallFault>
-    // The two files are files of rows, and the findings that are answered of each are its own.
+    // If the call succeeds, then `first` and `second` are files with rows, and the findings that are returned
+    // for each are exactly its findings.
     ensures before { IfOk result (λ done. AreFound first.now done.first.items
         × AreFound second.now done.second.items) }
-    // The file that is answered is the merged file of the two, with its tail.
+    // If the call succeeds, then the returned file is the merged file of `first` and `second`, with its tail,
+    // and has fewer than 2^64 bytes.
     ensures merged { IfOk result (λ done.
         WroteMerge (first.now ∷ second.now ∷ []) done.joined.tail (Some []) (Some done.joined.bytes.items)) }
-    // The findings that are answered of the merged file are its own.
+    // If the call succeeds, then the merged file has rows, and the findings that are returned for it are
+    // exactly its findings.
     ensures after { IfOk result (λ done. AreFound done.joined.bytes.items done.found.items) }
-    // Where nothing was found of the two files, nothing is found of the merged one.
+    // If the call succeeds and returns no findings for `first` and `second`, then it returns no findings for
+    // the merged file.
     ensures nothing { IfOk result (λ done. done.first.items ≡ [] → done.second.items ≡ [] → done.found.items ≡ []) }
 {
     // each for its contract alone: nothing is found of what is merged of files of which nothing is found, and a file

@@ -34,64 +34,74 @@ use orc_merger::{grouping, orders, outcomes};
 /// merges answer Ok, they do. That statistics are right is asked where they are spoken of, and that there are rows
 /// where rows are. What is said of a merged file holds of what each grouping wrote, by the clause `merged`.
 pub fn merge_theorem()
-    // However files are grouped, what is written is what the merge of all of them at once writes.
+    // If each merge of a grouping wrote its file, and one merge of all files of the grouping succeeded, then
+    // this one merge wrote the same bytes as the grouping.
     ensures bytes { (groups : Groups) (tail : Tail) (out : List ℕ) (old new : Option (List ℕ))
         → (each_merge_wrote : Wrote (merge groups) out)
         → (merge_at_once_wrote : WroteMerge (all_leaves groups) tail old new)
         → new ≡ appended old out }
-    // Two groupings of the same files wrote the same bytes.
+    // If each merge of two groupings of one list of files wrote its file, then both groupings wrote the same
+    // bytes.
     ensures alike { (groups others : Groups) (out other : List ℕ)
         → (each_merge_wrote : Wrote (merge groups) out)
         → (each_other_merge_wrote : Wrote (merge others) other)
         → (they_are_of_the_same_files : all_leaves others ≡ all_leaves groups)
         → other ≡ out }
-    // A grouping wrote the merged file of all its files.
+    // If each merge of a grouping wrote its file, then the grouping wrote the merged file of all its files,
+    // which has fewer than 2^64 bytes.
     ensures merged { (groups : Groups) (out : List ℕ)
         → (each_merge_wrote : Wrote (merge groups) out)
         → (tail : Tail) × IsMerge (all_leaves groups) tail out × (length out < 2 ^ 64) }
-    // Its last merge answered the tail that the merge of all the files at once answers.
+    // If each merge of a grouping below the last one wrote its file, and the last merge succeeded, then the
+    // last merge wrote the merged file of all files of the grouping and returned its tail.
     ensures answered { (groups : Groups) (files : List (List ℕ)) (tail : Tail) (old new : Option (List ℕ))
         → (each_merge_below_wrote : AllWrote groups files)
         → (last_merge_wrote : WroteMerge files tail old new)
         → WroteMerge (all_leaves groups) tail old new }
-    // Whether written or not, a grouping gives the merged file of all its files, and no other, if
-    // what its steps below the root give has fewer than 2^64 bytes.
+    // If each file that a step of a grouping below the root gives has fewer than 2^64 bytes, then the grouping
+    // gives a file if and only if this is the merged file of all files of the grouping.
     ensures given { (groups : Groups) (out : List ℕ)
         → (steps_below_give_fewer_than_2_64_bytes : AllShort groups)
         → Gives (merge groups) out ↔ ((tail : Tail) × IsMerge (all_leaves groups) tail out) }
 
-    // A merged file with fewer than 2^64 bytes opens with its tail.
+    // If a merged file has fewer than 2^64 bytes, then it opens with the merged tail.
     ensures opens { (files : List (List ℕ)) (tail : Tail) (out : List ℕ)
         → (it_is_their_merge : IsMerge files tail out)
         → (it_has_fewer_than_2_64_bytes : length out < 2 ^ 64)
         → IsTail out tail }
-    // Where each file has rows, the rows of such a merged file are the files' rows, in order.
+    // If each of some files has rows, and their merged file has fewer than 2^64 bytes, then the merged file is
+    // a file with the merged tail and the rows of these files, in order.
     ensures rows { (files : List (List ℕ)) (tail : Tail) (out : List ℕ) (parts : List (List Cell))
         → (it_is_their_merge : IsMerge files tail out)
         → (it_has_fewer_than_2_64_bytes : length out < 2 ^ 64)
         → (each_file_has_rows : HaveRows files parts)
         → FileIs out tail (joined parts) }
 
-    // A merged file's statistics of the whole file are the same for every order of the files.
+    // If files have a merged file, and so has a permutation of them, then both merged files have the same file
+    // statistics.
     ensures order { (files others : List (List ℕ)) (tail its_tail : Tail) (out other : List ℕ)
         → (it_is_their_merge : IsMerge files tail out)
         → (other_is_the_others_merge : IsMerge others its_tail other)
         → (others_are_the_files_in_some_order : IsPermutation files others)
         → tail.file_stats ≡ its_tail.file_stats }
-    // What can be merged in one order can be in every other.
+    // If files have a merged file, then the files in any order have a merged file.
     ensures orders { (files others : List (List ℕ)) (tail : Tail) (out : List ℕ)
         → (it_is_their_merge : IsMerge files tail out)
         → (others_are_the_files_in_some_order : IsPermutation files others)
         → (its_tail : Tail) × (other : List ℕ) × IsMerge others its_tail other }
-    // Where the statistics of the files' stripes are those of their rows, or know less of children,
-    // so are those of the merged file's stripes, and those of the whole file are those of all rows,
-    // as far as the stripes tell: without a sum where some stripe's total doesn't fit 64 bits.
+    // If files have a merged file, and the stripe statistics of each file are those of its rows (element counts
+    // may be missing), then the merged tail's stripe statistics are those of all the rows (element counts may
+    // be missing), and its file statistics are those of all the rows, with two exceptions. A sum is missing if
+    // the sum of some stripe doesn't fit 64 bits. An element count is missing if it is missing for some stripe
+    // with a value in that column.
     ensures statistics { (files : List (List ℕ)) (tail : Tail) (out : List ℕ) (parts : List (List Cell))
         → (it_is_their_merge : IsMerge files tail out)
         → (each_file_has_rows_and_their_statistics : AreHonestFiles files parts)
         → Honest tail (joined parts) × HasWholeStats tail (joined parts) }
-    // Where they are so, and it has fewer than 2^64 bytes, a column's sum stands exactly where that
-    // of each stripe with values and that of all rows fit 64 bits.
+    // If a merged file has fewer than 2^64 bytes, and the stripe statistics of each input are those of its rows
+    // (element counts may be missing), then the merged tail has a file statistic of each column, which has a
+    // sum if and only if the sum of each stripe with values and the sum of all rows fit 64 bits. A statistic of
+    // a kind without sums counts as having one.
     ensures sums { (files : List (List ℕ)) (tail : Tail) (out : List ℕ) (parts : List (List Cell)) (column : ℕ)
         → (it_is_their_merge : IsMerge files tail out)
         → (it_has_fewer_than_2_64_bytes : length out < 2 ^ 64)
@@ -102,8 +112,10 @@ pub fn merge_theorem()
         ≡ (each_fits tail.schema (cut_rows tail.stripes (joined parts)) column
         && has_sum (column_stat tail.schema (joined parts) column).body)) }
 
-    // Where the files open and agree, and what steps below the root give has fewer than 2^64 bytes,
-    // merging at once is refused for user metadata or a limit exactly where some step is.
+    // If the files of a grouping have one schema, version, writer, stride and other footer fields, and all
+    // stripe statistics, and each file that a step below the root gives has fewer than 2^64 bytes, then one
+    // merge of all these files is refused with `UserMetadataConflict` or `Limit` if and only if some step of
+    // the grouping is.
     ensures refused { (groups : Groups)
         → (steps_below_give_fewer_than_2_64_bytes : AllShort groups)
         → (files_open_and_agree : AreFellows (all_leaves groups))

@@ -52,13 +52,16 @@ pub fn in_two_steps<S: Source, W: Sink>(
     right: &mut [S],
     out: &mut W,
 ) -> Result<Tail, MergeFault>
-    // Where the sources and the output tell their bytes, the merged file of all files of both lists
-    // went out, and its tail is answered.
+    // If merging succeeds and all sources' bytes are known, then the files of `left` followed by those of
+    // `right` have a merged file of fewer than 2^64 bytes, and its tail is returned. The output has got exactly
+    // this file if the output's bytes are known.
     ensures merged { IfOk result (λ tail. (xs ys : List (List ℕ))
         → map S.told left.old ≡ map Some xs
         → map S.told right.old ≡ map Some ys
         → WroteMerge (xs ++ ys) tail (W.told out.old) (W.told out.new)) }
-    // Where the sources tell their bytes, a refusal is what one of the three merges is refused for.
+    // If all sources' bytes are known, then an error is `SourceFailed`, `WriteFailed`, `OutOfMemory`, or the
+    // first fault of the inputs of one of the three merges: that of `left`, that of `right`, and that of the
+    // two merged files.
     ensures refused { IfErr result (λ e. (xs ys : List (List ℕ))
         → map S.told left.old ≡ map Some xs
         → map S.told right.old ≡ map Some ys
@@ -84,18 +87,21 @@ pub fn join_in_steps(
     second: &[u8],
     third: &[u8],
 ) -> Result<FileInMemory, MergeFault>
-    // What is answered was written by joining the first two files, and then what this gave with the
-    // third.
+    // If joining succeeds, then the returned bytes are those that two merges wrote: the first of `first` and
+    // `second`, the second of what the first merge wrote and `third`.
     ensures wrote { IfOk result (λ done. Wrote (first_two first.now second.now third.now) done.bytes.items) }
-    // What is answered is what joining the three at once writes, with its tail.
+    // If joining succeeds, then the returned bytes are the merged file of `first`, `second` and `third`, in
+    // this order, which has fewer than 2^64 bytes, and the returned tail is its tail.
     ensures merged { IfOk result (λ done.
         WroteMerge (first.now ∷ second.now ∷ third.now ∷ []) done.tail (Some []) (Some done.bytes.items)) }
-    // Where the files open, and are of one kind, user metadata or a limit is the refusal only where
-    // one of them refuses joining the three at once.
+    // If the error is `UserMetadataConflict` or `Limit`, and the three files have one schema, version, writer,
+    // stride and other footer fields, and all stripe statistics, then one merge of the three files is refused
+    // with `UserMetadataConflict` or `Limit`, too.
     ensures refused { IfErr result (λ e. ComesOfJoining e
         → AreFellows (first.now ∷ second.now ∷ third.now ∷ [])
         → (fault : MergeFault) × ComesOfJoining fault × IsRefused (first.now ∷ second.now ∷ third.now ∷ []) fault) }
-    // A refusal is for a device, memory or what one of the steps is refused for.
+    // An error is `SourceFailed`, `WriteFailed`, `OutOfMemory`, or the first fault of the inputs of one of the
+    // two merges.
     ensures step { IfErr result (IsStepAnswer (first_two first.now second.now third.now)) }
 {
     // for its contract alone: a grouping is refused just where the merge of all its files is
@@ -166,33 +172,41 @@ pub fn join_in_groupings(
     second: &[u8],
     third: &[u8],
 ) -> Result<(FileInMemory, bool), MergeFault>
-    // The file that is answered is the merged file of the three, with its tail.
+    // If joining succeeds, then the returned bytes are the merged file of `first`, `second` and `third`, in
+    // this order, which has fewer than 2^64 bytes, and the returned tail is its tail.
     ensures merged { IfOk result (λ done.
         WroteMerge (first.now ∷ second.now ∷ third.now ∷ []) done.0.tail (Some []) (Some done.0.bytes.items)) }
-    // Each grouping gave the same bytes as joining them at once: true is answered.
+    // If joining succeeds, then `true` is returned beside the file: each grouping gave the same bytes as one
+    // merge.
     ensures same { IfOk result (λ done. IsTrue done.1) }
-    // Both groupings wrote the bytes that are answered.
+    // If joining succeeds, then both groupings wrote the returned bytes: the first two files and then the
+    // third, and the first file with what the last two gave.
     ensures grouped { IfOk result (λ done. Wrote (first_two first.now second.now third.now) done.0.bytes.items
         × Wrote (last_two first.now second.now third.now) done.0.bytes.items) }
-    // Whatever other grouping of them there is, where what its steps below the root give has fewer
-    // than 2^64 bytes, gives these bytes, and no others.
+    // If joining succeeds, and each file that a step below the root of some grouping of the three files gives
+    // has fewer than 2^64 bytes, then this grouping gives the returned bytes and no others.
     ensures given { IfOk result (λ done. (groups : Groups) (out : List ℕ) → AllShort groups
         → all_leaves groups ≡ first.now ∷ second.now ∷ third.now ∷ []
         → Gives (grouping.merge groups) out ↔ (out ≡ done.0.bytes.items)) }
-    // The file opens with the tail that is answered.
+    // If joining succeeds, then the returned file opens with the returned tail.
     ensures opens { IfOk result (λ done. IsTail done.0.bytes.items done.0.tail) }
-    // Where the three files have rows, its rows are theirs, in order.
+    // If joining succeeds and each of the three files has rows, then the returned file has the returned tail
+    // and the rows of the three files, in order.
     ensures rows { IfOk result (λ done. (parts : List (List Cell))
         → HaveRows (first.now ∷ second.now ∷ third.now ∷ []) parts
         → FileIs done.0.bytes.items done.0.tail (rows.joined parts)) }
-    // Where the statistics of the files' stripes are those of their rows, or know less of children,
-    // so are its stripes', and those of the whole file are those of all rows, as far as the stripes
-    // tell: without a sum where some stripe's total doesn't fit 64 bits.
+    // If joining succeeds, and the stripe statistics of each of the three files are those of its rows (element
+    // counts may be missing), then the returned tail's stripe statistics are those of all the rows (element
+    // counts may be missing), and its file statistics are those of all the rows, with two exceptions. A sum is
+    // missing if the sum of some stripe doesn't fit 64 bits. An element count is missing if it is missing for
+    // some stripe with a value in that column.
     ensures statistics { IfOk result (λ done. (parts : List (List Cell))
         → AreHonestFiles (first.now ∷ second.now ∷ third.now ∷ []) parts
         → Honest done.0.tail (rows.joined parts) × HasWholeStats done.0.tail (rows.joined parts)) }
-    // Then a column's sum stands exactly where that of each stripe with values and that of all rows
-    // fit 64 bits.
+    // If joining succeeds, and the stripe statistics of each of the three files are those of its rows (element
+    // counts may be missing), then the returned tail has a file statistic of each column, which has a sum if
+    // and only if the sum of each stripe with values and the sum of all rows fit 64 bits. A statistic of a kind
+    // without sums counts as having one.
     ensures sums { IfOk result (λ done. (parts : List (List Cell)) (column : ℕ)
         → AreHonestFiles (first.now ∷ second.now ∷ third.now ∷ []) parts
         → column < width done.0.tail.schema
@@ -200,7 +214,8 @@ pub fn join_in_groupings(
         × (has_sum told.body
         ≡ (each_fits done.0.tail.schema (cut_rows done.0.tail.stripes (rows.joined parts)) column
         && has_sum (column_stat done.0.tail.schema (rows.joined parts) column).body))) }
-    // A refusal is for a device, memory or what a step of one of the three ways is refused for.
+    // An error is `SourceFailed`, `WriteFailed`, `OutOfMemory`, or the first fault of the inputs of one of the
+    // merges: those of the two groupings, and the one of all three files.
     ensures refused { IfErr result (λ e. IsStepAnswer (first_two first.now second.now third.now) e
         ⊎ (IsStepAnswer (last_two first.now second.now third.now) e
         ⊎ IsStepAnswer (at_once first.now second.now third.now) e)) }
@@ -222,18 +237,20 @@ pub fn join_in_orders(
     first: &[u8],
     second: &[u8],
 ) -> Result<(FileInMemory, FileInMemory), MergeFault>
-    // The two files that are answered are the merged files of the two in the one order and in the
-    // other, with their tails.
+    // If joining succeeds, then the two returned files are the merged file of `first` and `second` and that of
+    // `second` and `first`, each with its tail and with fewer than 2^64 bytes.
     ensures one { IfOk result (λ done.
         WroteMerge (first.now ∷ second.now ∷ []) done.0.tail (Some []) (Some done.0.bytes.items)) }
     ensures other { IfOk result (λ done.
         WroteMerge (second.now ∷ first.now ∷ []) done.1.tail (Some []) (Some done.1.bytes.items)) }
-    // Both have the same statistics of the whole file.
+    // If joining succeeds, then both returned files have the same file statistics.
     ensures same { IfOk result (λ done. done.0.tail.file_stats ≡ done.1.tail.file_stats) }
-    // A refusal is what one of the two merges is refused for.
+    // An error is `SourceFailed`, `WriteFailed`, `OutOfMemory`, or the first fault of `first` and `second` as
+    // inputs in one of the two orders.
     ensures refused { IfErr result (λ e. IsAnswer (first.now ∷ second.now ∷ []) e
         ⊎ IsAnswer (second.now ∷ first.now ∷ []) e) }
-    // Where the first can be joined with the second, a refusal is only a device's or memory's.
+    // If `first` and `second` have a merged file in this order, then an error is `SourceFailed`, `WriteFailed`
+    // or `OutOfMemory`.
     ensures only { IfErr result (λ e. (tail : Tail) (out : List ℕ)
         → IsMerge (first.now ∷ second.now ∷ []) tail out → IsDeviceFault e) }
 {

@@ -25,43 +25,49 @@ use orc_file::{row_laws, tail_laws, written_laws};
 /// found of it: its statistics, those of its stripes and of the whole file, and its row indexes are those of the
 /// rows.
 pub fn written_files_read_back()
-    // What `finish` wrote, behind what the output had told, is a file of the rows that were pushed,
-    // with the tail that is answered.
+    // If `finish` succeeded, then what it wrote, after what the output had before, is a file with the returned
+    // tail and the rows that were pushed.
     ensures written { (options : Options) (schema : Shape) (tail : Tail) (first told : Option (List ℕ)) (rows : List Cell)
         → (finish_wrote : IsWhole options schema tail first told rows)
         → (told ≡ appended first finish_wrote.bytes) × FileIs finish_wrote.bytes tail rows }
-    // Opening it finds that tail and no other.
+    // If `finish` succeeded, and opening what it wrote finds a tail, then this is the tail that `finish`
+    // returned.
     ensures opened { (options : Options) (schema : Shape) (tail : Tail) (first told : Option (List ℕ)) (rows : List Cell)
         (opened : Tail)
         → (finish_wrote : IsWhole options schema tail first told rows)
         → (open_found : IsTail finish_wrote.bytes opened)
         → opened ≡ tail }
-    // Reading it finds those rows and no others.
+    // If `finish` succeeded, and what it wrote is read as a file with some tail and rows, then these are the
+    // tail that `finish` returned and the rows that were pushed.
     ensures read { (options : Options) (schema : Shape) (tail : Tail) (first told : Option (List ℕ)) (rows : List Cell)
         (opened : Tail) (found : List Cell)
         → (finish_wrote : IsWhole options schema tail first told rows)
         → (rows_found : FileIs finish_wrote.bytes opened found)
         → (opened ≡ tail) × (found ≡ rows) }
-    // Its statistics are those of the rows, of each stripe and of the whole file; the file's lack a
-    // sum where the total of some stripe doesn't fit 64 bits.
+    // If `finish` succeeded, then the returned tail's stripe statistics are those of the rows (element counts
+    // may be missing), and its file statistics are those of all rows, with two exceptions. A sum is missing if
+    // the sum of some stripe doesn't fit 64 bits. An element count is missing if it is missing for some stripe
+    // with a value in that column.
     ensures statistics { (options : Options) (schema : Shape) (tail : Tail) (first told : Option (List ℕ))
         (rows : List Cell)
         → (finish_wrote : IsWhole options schema tail first told rows)
         → Honest tail rows × HasWholeStats tail rows }
-    // Checking it finds nothing.
+    // If `finish` succeeded, and checking what it wrote finds a list of findings, then this list is empty.
     ensures checked { (options : Options) (schema : Shape) (tail : Tail) (first told : Option (List ℕ)) (rows : List Cell)
         (found : List Finding)
         → (finish_wrote : IsWhole options schema tail first told rows)
         → (check_found : Findings finish_wrote.bytes tail rows found)
         → found ≡ [] }
-    // Of the same rows, by the same options and schema, one file is written.
+    // If `finish` succeeded twice for the same rows, options and schema, then it wrote the same bytes and
+    // returned the same tail both times.
     ensures one { (options : Options) (schema : Shape) (tail other : Tail) (first told start end : Option (List ℕ))
         (rows : List Cell)
         → (finish_wrote : IsWhole options schema tail first told rows)
         → (another_finish_wrote : IsWhole options schema other start end rows)
         → (other ≡ tail) × (another_finish_wrote.bytes ≡ finish_wrote.bytes) }
-    // Where a call of the writer failed, what was written is the front of a file of some of the
-    // first rows, if the text of the schema's types in the footer has fewer than 2^62 bytes.
+    // If a call of the writer failed, and the text of the schema's types in the footer has fewer than 2^62
+    // bytes, then what was written is a prefix of a file with the schema and the first n of the rows, for some
+    // n.
     ensures front { (options : Options) (schema : Shape) (first told : Option (List ℕ)) (rows : List Cell)
         → (a_call_failed : IsCutOff options schema first told rows)
         → (types_have_fewer_than_2_62_bytes : length (types_text schema) < 2 ^ 62)

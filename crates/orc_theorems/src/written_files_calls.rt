@@ -59,12 +59,13 @@ pub fn write_to<W: Sink>(
     rows: &[Row<'_>],
     out: W,
 ) -> Result<(Tail, W), (FileFault, W)>
-    // Where it succeeds, and the output tells its bytes, the whole file of the rows went out, and
-    // its tail is answered.
+    // If the call succeeds and the output's bytes are known, then the output has got the whole file of `rows`,
+    // which has fewer than 2^64 bytes, and the file's tail is returned.
     ensures written { IfOk result (λ done.
         IsWhole options schema done.0 (W.told out) (W.told done.1) (views rows.now)) }
-    // Where the output failed, and the text of the schema's types in the footer has fewer than 2^62
-    // bytes, the front of a file of some of the first rows is out.
+    // If the error is `WriteFailed`, the output's bytes are known, and the text of the schema's types in the
+    // footer has fewer than 2^62 bytes, then the output has got a prefix of a file with the schema and the
+    // first n of `rows`, for some n.
     ensures front { IfErr result (λ e. e.0 ≡ fault.WriteFailed
         → length (types_text schema) < 2 ^ 62
         → IsFrontOfFile schema (W.told out) (W.told e.1) (views rows.now)) }
@@ -120,15 +121,16 @@ pub fn write_and_read(
     options: Options,
     rows: &[Row<'_>],
 ) -> Result<ReadBack, FileFault>
-    // The file that is answered is the whole file of the rows, with its tail.
+    // If the call succeeds, then the returned bytes are the whole file of `rows`, which has fewer than 2^64
+    // bytes, and the returned tail is its tail.
     ensures written { IfOk result (λ done.
         IsWhole options schema done.file.tail (Some []) (Some done.file.bytes.items) (views rows.now)) }
-    // The rows that are answered are those of the file, and those that were written.
+    // If the call succeeds, then the returned rows are those of the returned file, and they are `rows`.
     ensures read { IfOk result (λ done. FileIs done.file.bytes.items done.file.tail (views done.rows.items)) }
     ensures same { IfOk result (λ done. views done.rows.items ≡ views rows.now) }
-    // The findings that are answered are those of the file.
+    // If the call succeeds, then the returned findings are exactly those of the returned file.
     ensures checked { IfOk result (λ done. AreFound done.file.bytes.items done.found.items) }
-    // Nothing is found of it.
+    // If the call succeeds, then it returns no findings.
     ensures nothing { IfOk result (λ done. done.found.items ≡ []) }
 {
     // for its contract alone: what is written is read back

@@ -25,38 +25,43 @@ use orc_merger::grouping;
 /// So it does in a file that is merged of such files, in whatever groups. It is said of a writer's indexes: those of
 /// others may be right, and name a run far in front of the value.
 pub fn writers_positions()
-    // The row indexes of a file that was written are those that a writer writes of its streams and
-    // cells.
+    // If `finish` succeeded, then what it wrote is a file with the returned tail and the rows that were pushed.
+    // If its stride is above 0, each column of each stripe has the row index that a writer writes of the
+    // column's streams and cells.
     ensures written { (options : Options) (schema : Shape) (tail : Tail) (first told : Option (List ℕ)) (rows : List Cell)
         → (finish_wrote : IsWhole options schema tail first told rows)
         → FileIs finish_wrote.bytes tail rows × HasWrittenIndexes finish_wrote.bytes tail rows }
-    // So are those of a file that is merged of files with such indexes, if it has fewer than 2^64
-    // bytes.
+    // If a merged file has fewer than 2^64 bytes, and each input is a file with rows and with row indexes as a
+    // writer writes them, then the merged file is a file with the merged tail and the inputs' rows, in order,
+    // and with row indexes as a writer writes them.
     ensures merged { (files : List (List ℕ)) (tail : Tail) (out : List ℕ) (parts : List (List Cell))
         → (it_is_their_merge : IsMerge files tail out)
         → (it_has_fewer_than_2_64_bytes : length out < 2 ^ 64)
         → (each_file_has_a_writers_indexes : AreIndexedAsWritten files parts)
         → FileIs out tail (joined parts) × HasWrittenIndexes out tail (joined parts) }
-    // So are those of what was merged of such files in whatever groups, where each merge answered
-    // Ok.
+    // If each merge of a grouping wrote its file, and each file of the grouping has rows and row indexes as a
+    // writer writes them, then the grouping wrote a file with all these rows, in order, and with row indexes as
+    // a writer writes them.
     ensures grouped { (groups : Groups) (out : List ℕ) (parts : List (List Cell))
         → (each_merge_wrote : Wrote (merge groups) out)
         → (each_file_has_a_writers_indexes : AreIndexedAsWritten (all_leaves groups) parts)
         → (tail : Tail) × FileIs out tail (joined parts) × HasWrittenIndexes out tail (joined parts) }
 
-    // From each position in such an index of a file of rows `seek` reads one run at most, of
-    // integers, bytes or booleans.
+    // If a file with rows has row indexes as a writer writes them, then from each position in them `seek` reads
+    // at most one run, of integers, bytes or booleans.
     ensures one_run { (bytes : List ℕ) (tail : Tail) (rows : List Cell)
         → (it_is_a_file_of_the_rows : FileIs bytes tail rows)
         → (it_has_a_writers_indexes : HasWrittenIndexes bytes tail rows)
         → ReadsOneRun bytes tail rows }
-    // So it does from each position in a row index of a file that was written.
+    // If `finish` succeeded, then from each position in the row indexes of what it wrote `seek` reads at most
+    // one run.
     ensures in_files { (options : Options) (schema : Shape) (tail : Tail) (first told : Option (List ℕ))
         (rows : List Cell)
         → (finish_wrote : IsWhole options schema tail first told rows)
         → ReadsOneRun finish_wrote.bytes tail rows }
-    // So it does in what was merged of written files in whatever groups, where each merge answered
-    // Ok.
+    // If each merge of a grouping wrote its file, and each file of the grouping was written by `finish`, then
+    // the grouping wrote a file with the rows of all these files, in order, and from each position in its row
+    // indexes `seek` reads at most one run.
     ensures in_merges { (groups : Groups) (out : List ℕ) (parts : List (List Cell))
         → (each_merge_wrote : Wrote (merge groups) out)
         → (each_file_was_written : WereWritten (all_leaves groups) parts)

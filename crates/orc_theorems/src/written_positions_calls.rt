@@ -139,7 +139,7 @@ pub fn write_and_seek(
     column: usize,
     group: usize,
 ) -> Result<ColumnSought, FileFault>
-    // To reach the group one run is read at most in each of the column's streams.
+    // If the call succeeds, then at most one run was read in each of the column's streams to reach the group.
     ensures one_run { IfOk result ReadOneEach }
 {
     // for its contract alone: from a writer's positions one run is read at most
@@ -161,8 +161,8 @@ pub fn join_and_seek(
     column: usize,
     group: usize,
 ) -> Result<ColumnSought, CallFault>
-    // Where both files were written, one run is read at most in each of the column's streams to
-    // reach the group.
+    // If the call succeeds, and `first` and `second` were written by `finish`, then at most one run was read in
+    // each of the column's streams to reach the group.
     ensures one_run { (rows others : List Cell)
         → WasWritten first.now rows
         → WasWritten second.now others
