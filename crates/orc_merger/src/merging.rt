@@ -48,7 +48,7 @@ pub fn merge<S: Source, W: Sink>(
         → (W.told out.new ≡ W.told out.old) × (W.failures out.new ≡ W.failures out.old)
         × (map S.failures inputs.new ≡ map S.failures inputs.old) }
 
-    // The same is known of the sources' bytes as before.
+    // What is known of the sources' bytes is unchanged.
     ensures told { map S.told inputs.new ≡ map S.told inputs.old }
     // If merging succeeds, then the counts of failures of all sources and of the output are unchanged.
     ensures kept { OnOk result ((map S.failures inputs.new ≡ map S.failures inputs.old)
