@@ -189,34 +189,40 @@ pub fn rows_to<S: Source, W: Write>(
     from: Option<&str>,
     out: &mut W,
 ) -> Result<S, (CliFault, S)>
-    // Where the source and the output tell their bytes and it succeeds, the lines of the file's
-    // rows are out, in order, and nothing else. Where a group is asked for, they are those of the
-    // rows behind its positions, which are the stripe's from there on where the positions are
-    // right, and of the stripes behind.
+    // If the call succeeds and the source's bytes are known, then these bytes have a tail, and the output has
+    // got exactly the lines of rows, in order, if the output's bytes are known. Without `from` these are all
+    // rows of the file. Otherwise `from` names a stripe and a group, and these are the rows after the group's
+    // positions in this stripe, followed by the rows of all later stripes. If the stripe starts at the group
+    // with some rows, the rows after the positions are these, from the group's first row on.
     ensures written { OnOk result (IfSome (S.told source) (λ bytes. (start : Option Start) × IsAsked from.entry start
         × ArePrinted bytes start (W.contents out.old) (W.contents out.new))) }
-    // Where the source tells its bytes, these are a file of rows that have JSON, and no group is
-    // asked for, a refusal is for the output, the source or memory alone.
+    // If there is no `from`, and the source's bytes are known and are a file with rows that have JSON, then an
+    // error is `WriteFailed`, `SourceFailed` or `OutOfMemory`.
     ensures only { from.entry ≡ None → IfSome (S.told source) (λ bytes. (tail : Tail) (rows : List Cell)
         → FileIs bytes tail rows → HaveJson tail.schema rows
         → IfErr result (λ e. IsOutsideFile e.0)) }
 
-    // Where the source and the output tell their bytes, a refusal stands; out are the lines of the
-    // stripes before the one that is refused, and of its own a part only where the output failed.
+    // If the source's bytes are known, then an error is one of these: `Syntax`, if `from` names no stripe and
+    // group; the fault of the first test of a tail that the bytes fail; `BadStripe`, if the file lacks the
+    // stripe that `from` names; for the first stripe that fails, `Stripe` with the reason why it has no rows or
+    // isn't read from the named group on, or `DuplicateField` if its rows have no JSON; `WriteFailed`;
+    // `SourceFailed`; or `OutOfMemory`. If the output's bytes are known, the output has got exactly the lines
+    // of all stripes before the one that failed, from the named group on if there is one, and none if no stripe
+    // was reached. After `WriteFailed` it has also got a proper prefix of the lines of the stripe that failed.
     ensures refused { IfErr result (λ e. IfSome (S.told source)
         (λ bytes. Refuses bytes from.entry (W.contents out.old) (W.contents out.new) e.0)) }
-    // A text that names no stripe and group is refused as Syntax, whatever the source holds, whose
-    // count of failures stays, and what the output tells is as it was.
+    // If `from` is a text that names no stripe and group, then the error is `Syntax`, the source's count of
+    // failures is unchanged, and so are the output's bytes if they are known.
     ensures unread { ((start : Option Start) → IsAsked from.entry start → ⊥)
         → MatchResult result (λ _. ⊥) (λ e. IsNotAsked from.entry e.0
         × (S.failures e.1 ≡ S.failures source)
         × Keeps (W.contents out.old) (W.contents out.new)) }
-    // After success and after a refusal the source that is handed back tells what it told, and is
-    // as long. Its count of failures rose where the refusal is SourceFailed, and didn't where the
-    // call succeeds or memory ran out.
+    // The source, which a success and an error return, has its former length, and the same is known of its
+    // bytes. The source's count of failures is unchanged if the call succeeds or the error is `OutOfMemory`,
+    // and higher if the error is `SourceFailed`.
     ensures source { HandsBackSource S.told S.size S.failures (File SourceFailed) IsWantOfMemory (λ back. back)
         source result }
-    // Want of memory is that of the layer of JSON, for a row's text, or of that of files.
+    // If the error is `OutOfMemory`, then it is that of `Json` or that of `File`.
     ensures layer { IfErr result (λ e. IsWantOfMemory e.0 → IsWantOfRows e.0) }
 {
     match asked_of(from) {
