@@ -74,34 +74,42 @@ pub fn write_lines<L: LineReader, W: Sink>(
     lines: &mut L,
     out: W,
 ) -> Result<(Tail, W), (CliFault, W)>
-    // Where it succeeds, the text tells a schema, and an output that tells its bytes has got the
-    // whole file of rows: where the input tells its bytes, those that its lines spell, in order.
+    // If the call succeeds, then `schema` is the text of a schema. The output has got exactly the whole file of
+    // some rows of this schema if the output's bytes are known. This file has fewer than 2^64 bytes, and its
+    // tail is returned. The rows are those that the lines of the input spell, in order, if the input's bytes
+    // are known.
     ensures written { IfOk result (λ done. (s : Shape) × (rows : List Cell) × HasText s schema.now
         × IfSome (L.remaining lines.old) (λ bytes. AreRowsOf s bytes rows)
         × IsWhole options s done.0 (W.told out) (W.told done.1) rows) }
-    // Where the input tells its bytes, the text tells a schema and every line that isn't empty
-    // spells a row, a refusal is for a limit, the output, the input or memory alone.
+    // If the input's bytes are known, `schema` is the text of a schema, and each line of the input that isn't
+    // empty spells a row of this schema, then an error is `Limit`, `WriteFailed`, `SourceFailed` or
+    // `OutOfMemory`.
     ensures only { IfSome (L.remaining lines.old) (λ bytes. (s : Shape) (rows : List Cell) → HasText s schema.now
         → AreRowsOf s bytes rows → IfErr result (λ e. IsOfWriter e.0 ⊎ (e.0 ≡ File file.SourceFailed))) }
-    // Where it succeeds, the input's count of failures didn't rise.
+    // If the call succeeds, then the input's count of failures is unchanged.
     ensures kept { OnOk result (L.failures lines.new ≡ L.failures lines.old) }
 
-    // Where the input tells its bytes, a refusal stands as one of `write_from`, or the next line
-    // isn't read; what is out is as there, and after SourceFailed `ORC` and the full stripes alone.
+    // An error is `Types` with a fault of the text `schema`, or `schema` is the text of a schema. `Limit` comes
+    // only if a file of the rows given to the writer would pass a limit. If the output's bytes are known, the
+    // output has got nothing after `Types`, exactly `ORC` and the full stripes of the rows given to the writer
+    // after any error of `Json` and after `SourceFailed`, and after any other error a prefix of a file of the
+    // first n of these rows, for some n. If the input's bytes are known, an error other than `Types` is `Json`
+    // with the reason why a line spells no row, `Limit`, `WriteFailed`, `SourceFailed` or `OutOfMemory`, and
+    // the rows given to the writer are those of the lines before the error, including the line with whose row
+    // the writer failed.
     ensures refused { IfErr result (λ e.
         RefusesLines options schema.now (L.remaining lines.old) (W.told out) (W.told e.1) e.0) }
-    // Where the refusal is SourceFailed, the input's count of failures rose by exactly one: it
-    // failed, and wasn't asked again.
+    // If the error is `SourceFailed`, then the input's count of failures is higher by exactly one.
     ensures source { IfErr result (λ e. e.0 ≡ File file.SourceFailed
         → L.failures lines.new ≡ L.failures lines.old + 1) }
-    // After every other refusal the input's count didn't rise.
+    // If the call fails with any error but `SourceFailed`, then the input's count of failures is unchanged.
     ensures unfailed { IfErr result (λ e. (e.0 ≡ File file.SourceFailed)
         ⊎ (L.failures lines.new ≡ L.failures lines.old)) }
-    // The output's count of failures rose where the refusal is WriteFailed, and didn't where the
-    // call succeeds or memory ran out.
+    // The output's count of failures is unchanged if the call succeeds or the error is `OutOfMemory`, and
+    // higher if the error is `WriteFailed`.
     ensures out { HandsBackSink W.failures write_failed IsWantOfMemory (λ done. done.1) out result }
-    // Want of memory is that of the layer of types, and then nothing is out, of that of JSON, or of
-    // that of files.
+    // If the error is `OutOfMemory`, then it is that of `Json`, that of `File`, or that of `Types`, and after
+    // that of `Types` the output's bytes are unchanged if they are known.
     ensures layer { IfErr result (λ e. IsWantOfMemory e.0 → IsWantOfWrite (W.told out) (W.told e.1) e.0) }
 {
     let schema = match Schema::parse(alloc, schema) {

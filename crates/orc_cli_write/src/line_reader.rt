@@ -18,10 +18,11 @@ pub trait LineReader {
     /// one. A line may be as long as there is memory for it. Every `Failed` counts as one failure, and nothing else
     /// does. After a refusal the vector holds anything.
     fn next_line(&mut self, line: &mut Vec<u8>) -> Result<bool, LineFault>
-        // Where the reader tells its bytes, the line that is read comes off their front, without
-        // its end, or there were none left.
+        // If the call succeeds and the reader's remaining bytes are known, then false is returned if and only
+        // if none remained. With true, `line` is the next line, without its end, and the known bytes after this
+        // line and its end remain.
         ensures found { IfOk result (λ found. IfSome (remaining self.old)
             (λ bytes. HasRead found bytes line.new.items (remaining self.new))) }
-        // Each Failed counts as one failure, and nothing else does.
+        // Each `Failed` adds one to the reader's count of failures, and no other answer changes it.
         ensures failures { failures self.new ≡ line_failures result (failures self.old) };
 }

@@ -92,24 +92,30 @@ pub fn write_from<W: Sink>(
     input: &[u8],
     out: W,
 ) -> Result<(Tail, W), (CliFault, W)>
-    // Where it succeeds, the text tells a schema, and an output that tells its bytes has got the
-    // whole file of the rows that the lines spell, in order, whose tail is handed back.
+    // If the call succeeds, then `schema` is the text of a schema, and the lines of `input` spell rows of this
+    // schema. The output has got exactly the whole file of these rows, in order, if the output's bytes are
+    // known. This file has fewer than 2^64 bytes, and its tail is returned.
     ensures written { IfOk result (λ done. (s : Shape) × (rows : List Cell)
         × HasText s schema.now × AreRowsOf s input.now rows
         × IsWhole options s done.0 (W.told out) (W.told done.1) rows) }
-    // Where the text tells a schema and every line that isn't empty spells a row of it, a refusal
-    // is for a limit, the output or memory alone.
+    // If `schema` is the text of a schema, and each line of `input` that isn't empty spells a row of this
+    // schema, then an error is `Limit`, `WriteFailed` or `OutOfMemory`.
     ensures only { (s : Shape) (rows : List Cell) → HasText s schema.now → AreRowsOf s input.now rows
         → IfErr result (λ e. IsOfWriter e.0) }
 
-    // A refusal stands: Types of the text, with nothing out; Json of a line, with `ORC` and the
-    // full stripes before it out; or the writer's or memory's, with a front of a file out.
+    // An error is `Types` with a fault of the text `schema`, or `schema` is the text of a schema and the error
+    // is `Json` with the reason why a line spells no row, `Limit`, `WriteFailed` or `OutOfMemory`. The rows
+    // given to the writer are those of the lines before the error, including the line with whose row the writer
+    // failed. `Limit` comes only if a file of the rows given to the writer would pass a limit. If the output's
+    // bytes are known, the output has got nothing after `Types`, exactly `ORC` and the full stripes of the rows
+    // given to the writer after any error of `Json`, and after any other error a prefix of a file of the first
+    // n of these rows, for some n.
     ensures refused { IfErr result (λ e. RefusesWrite options schema.now input.now (W.told out) (W.told e.1) e.0) }
-    // The output's count of failures rose where the refusal is WriteFailed, and didn't where the
-    // call succeeds or memory ran out.
+    // The output's count of failures is unchanged if the call succeeds or the error is `OutOfMemory`, and
+    // higher if the error is `WriteFailed`.
     ensures out { HandsBackSink W.failures write_failed IsWantOfMemory (λ done. done.1) out result }
-    // Want of memory is that of the layer of types, and then nothing is out, of that of JSON, or of
-    // that of files.
+    // If the error is `OutOfMemory`, then it is that of `Json`, that of `File`, or that of `Types`, and after
+    // that of `Types` the output's bytes are unchanged if they are known.
     ensures layer { IfErr result (λ e. IsWantOfMemory e.0 → IsWantOfWrite (W.told out) (W.told e.1) e.0) }
 {
     let schema = match Schema::parse(alloc, schema) {
