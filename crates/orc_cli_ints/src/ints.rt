@@ -81,30 +81,32 @@ pub fn ints_to<W: Write>(
     text: &str,
     out: &mut W,
 ) -> Result<(), CliFault>
-    // Where it succeeds, and the output tells its bytes, the numbers of the runs that the digits
-    // spell are out, on one line, and nothing else.
+    // If the call succeeds, then the digits in `text` spell a stream of numbers, and the output has got exactly
+    // the line of these numbers if the output's bytes are known.
     ensures written { OnOk result ((values : List ℤ) × SpellsInts rle sign text.now values
         × Appends (W.contents out.old) (W.contents out.new) (number_line values)) }
-    // Where the digits spell numbers, a refusal is for the output or for memory alone.
+    // If the digits in `text` spell a stream of numbers, then an error is `WriteFailed` or `OutOfMemory`.
     ensures only { (values : List ℤ) → SpellsInts rle sign text.now values → IfErr result IsOutside }
 
-    // A refusal stands: BadHex where the digits are none, Run with the fault of the first run that
-    // is none, WriteFailed where they spell numbers, or want of memory.
+    // An error is `BadHex`, only if `text` is not hexadecimal; `Run` with the fault of the first invalid run of
+    // the bytes that `text` spells; `WriteFailed`, only if the digits in `text` spell a stream of numbers; or
+    // `OutOfMemory`.
     ensures refused { IfErr result (RefusesInts rle sign text.now) }
-    // Where the digits are none, the refusal is BadHex, unless memory is refused.
+    // If `text` is not hexadecimal, then the error is `BadHex` or `OutOfMemory`.
     ensures no_hex { IsNoHex text.now → IsErrAnd result (λ e. (e ≡ Json json.BadHex) ⊎ IsWantOfMemory e) }
-    // Where the bytes are no stream of runs, the refusal is the fault of the first run that is
-    // none, unless memory is refused.
+    // If `text` is hexadecimal and its bytes have an invalid run, then the error is `Run` with the fault of the
+    // first invalid run, or `OutOfMemory`.
     ensures stops { (fault : RunFault) → StopsInts rle sign text.now fault
         → IsErrAnd result (λ e. (e ≡ Run fault) ⊎ IsWantOfMemory e) }
-    // After WriteFailed, where the output tells its bytes, a part of the line is out, and not all
-    // of it.
+    // If the error is `WriteFailed`, the output's bytes are known, and the digits in `text` spell a stream of
+    // numbers, then the output has got a proper prefix of the line of these numbers.
     ensures part { (values : List ℤ) → SpellsInts rle sign text.now values → result ≡ Err write_failed
         → AppendsPart (W.contents out.old) (W.contents out.new) (number_line values) }
-    // After every other refusal what the output tells is as it was.
+    // If the call fails with any error but `WriteFailed`, then the output's bytes are unchanged if they are
+    // known.
     ensures nothing { IfErr result (λ fault. fault ≢ write_failed
         → Keeps (W.contents out.old) (W.contents out.new)) }
-    // Want of memory is that of the layer of runs, for the numbers, or of that of files.
+    // If the error is `OutOfMemory`, then it is that of `Run` or that of `File`.
     ensures layer { IfErr result (λ fault. IsWantOfMemory fault → IsWantOfInts fault) }
 {
     let values = values_of(alloc, rle, sign, text)?;
