@@ -295,31 +295,32 @@ pub fn show_to<S: Source, W: Write>(
     source: S,
     out: &mut W,
 ) -> Result<S, (CliFault, S)>
-    // Where the source and the output tell their bytes and it succeeds, the source's are a file,
-    // and the lines of what its tail says are out, in order, and nothing else.
+    // If the call succeeds and the source's bytes are known, then these bytes have a tail, and the output has
+    // got exactly the lines that show this tail, in order, if the output's bytes are known.
     ensures written { OnOk result (IfSome (S.told source) (λ bytes. (tail : Tail) × IsTail bytes tail
         × Appends (W.contents out.old) (W.contents out.new) (spec.show_lines tail))) }
-    // Where the source tells its bytes, and they are a file, a refusal is for the output, the
-    // source or memory alone.
+    // If the source's bytes are known and have a tail, then an error is `WriteFailed`, `SourceFailed` or
+    // `OutOfMemory`.
     ensures only { IfSome (S.told source) (λ bytes. (tail : Tail) → IsTail bytes tail
         → IfErr result (λ e. IsOutsideFile e.0)) }
 
-    // Where the source tells its bytes, a refusal but WriteFailed stands: the bytes have the fault
-    // of the first test that fails, or the source or memory refused.
+    // If the source's bytes are known, then an error is `WriteFailed`, `SourceFailed`, `OutOfMemory`, or the
+    // fault of the first test of a tail that the bytes fail.
     ensures refused { IfErr result (λ e. IfSome (S.told source) (λ bytes. e.0 ≢ write_failed → IsNotOpened bytes e.0)) }
-    // After a refusal but WriteFailed what the output tells is as it was.
+    // If the call fails with any error but `WriteFailed`, then the output's bytes are unchanged if they are
+    // known.
     ensures nothing { IfErr result (λ e. e.0 ≢ write_failed → Keeps (W.contents out.old) (W.contents out.new)) }
-    // After WriteFailed, where the source and the output tell their bytes, a part of the lines is
-    // out, and not all of them.
+    // If the error is `WriteFailed` and the source's bytes are known, then these bytes have a tail, and the
+    // output has got a proper prefix of the lines that show this tail if the output's bytes are known.
     ensures part { IfErr result (λ e. e.0 ≡ write_failed → IfSome (S.told source)
         (λ bytes. (tail : Tail) × IsTail bytes tail
         × AppendsPart (W.contents out.old) (W.contents out.new) (spec.show_lines tail))) }
-    // After success and after a refusal the source that is handed back tells what it told, and is
-    // as long. Its count of failures rose where the refusal is SourceFailed, and didn't where the
-    // call succeeds or memory ran out.
+    // The source, which a success and an error return, has its former length, and the same is known of its
+    // bytes. The source's count of failures is unchanged if the call succeeds or the error is `OutOfMemory`,
+    // and higher if the error is `SourceFailed`.
     ensures source { HandsBackSource S.told S.size S.failures (File SourceFailed) IsWantOfMemory (λ back. back)
         source result }
-    // Want of memory is that of the layer of types, for the schema's text, or of that of files.
+    // If the error is `OutOfMemory`, then it is that of `Types` or that of `File`.
     ensures layer { IfErr result (λ e. IsWantOfMemory e.0 → spec.IsWantOfShow e.0) }
 {
     match OrcFile::open(alloc, source) {
