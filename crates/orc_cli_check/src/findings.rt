@@ -48,33 +48,37 @@ pub fn check_to<S: Source, W: Write>(
     source: S,
     out: &mut W,
 ) -> Result<(usize, S), (CliFault, S)>
-    // Where the source and the output tell their bytes and it succeeds, the source's are a file of
-    // rows, a line for each of its findings is out, in order, and their number is answered.
+    // If the call succeeds and the source's bytes are known, then these bytes are a file with rows, the number
+    // of the file's findings is returned, and the output has got exactly one line for each finding, in order,
+    // if the output's bytes are known.
     ensures written { IfOk result (λ done. IfSome (S.told source) (λ bytes. IsFoundOf bytes
         (λ found. (done.0 ≡ length found) × Appends (W.contents out.old) (W.contents out.new) (finding_lines found)))) }
-    // Where the source tells its bytes, and they are a file of rows, a refusal is for the output,
-    // the source or memory alone, named as a fault of the layer of files.
+    // If the source's bytes are known and are a file with rows, then an error is `WriteFailed`, `SourceFailed`
+    // or `OutOfMemory`, each that of `File`.
     ensures only { IfSome (S.told source) (λ bytes. (tail : Tail) (rows : List Cell) → FileIs bytes tail rows
         → IfErr result (λ e. (e.0 ≡ write_failed) ⊎ IsSourceOrMemory e.0)) }
 
-    // Where the source tells its bytes, a refusal but WriteFailed stands: they are no file, a
-    // stripe has no rows, or the source or memory refused.
+    // If the source's bytes are known, then an error is `WriteFailed`, `SourceFailed` or `OutOfMemory`, each
+    // that of `File`, or it is `File` with the fault of the first test of a tail that the bytes fail, or with
+    // `Stripe`, the number of the first stripe that has no rows and the reason.
     ensures refused { IfErr result (λ e. IfSome (S.told source)
         (λ bytes. e.0 ≢ write_failed → IsNotChecked bytes e.0)) }
-    // After a refusal but WriteFailed what the output tells is as it was.
+    // If the call fails with any error but `WriteFailed`, then the output's bytes are unchanged if they are
+    // known.
     ensures nothing { IfErr result (λ e. e.0 ≢ write_failed → Keeps (W.contents out.old) (W.contents out.new)) }
-    // After WriteFailed, where the source and the output tell their bytes, a part of the lines is
-    // out, and not all of them.
+    // If the error is `WriteFailed` and the source's bytes are known, then these bytes are a file with rows,
+    // and the output has got a proper prefix of the lines of the file's findings if the output's bytes are
+    // known.
     ensures part { IfErr result (λ e. e.0 ≡ write_failed → IfSome (S.told source) (λ bytes. IsFoundOf bytes
         (λ found. AppendsPart (W.contents out.old) (W.contents out.new) (finding_lines found)))) }
-    // After success and after a refusal the source that is handed back tells what it told, and is
-    // as long. Its count of failures rose where the refusal is SourceFailed, and didn't where the
-    // call succeeds or memory ran out.
+    // The source, which a success and an error return, has its former length, and the same is known of its
+    // bytes. The source's count of failures is unchanged if the call succeeds or the error is `OutOfMemory`,
+    // and higher if the error is `SourceFailed`.
     ensures source { HandsBackSource S.told S.size S.failures (File SourceFailed) IsWantOfMemory (λ done. done.1)
         source result }
-    // After a refusal that count rose just where it is SourceFailed.
+    // If the call fails with any error but `SourceFailed`, then the source's count of failures is unchanged.
     ensures unfailed { IfErr result (λ e. (e.0 ≡ File SourceFailed) ⊎ (S.failures e.1 ≡ S.failures source)) }
-    // Want of memory is that of the layer of files.
+    // If the error is `OutOfMemory`, then it is that of `File`.
     ensures layer { IfErr result (λ e. IsWantOfMemory e.0 → IsWantOfCheck e.0) }
 {
     let mut source = source;

@@ -17,14 +17,14 @@ use orc_check::start_laws;
 /// rows from the group's first one on; and where the group is there and the rows have JSON, printing them is refused
 /// for nothing that is the file's.
 pub fn place_laws()
-    // Where nothing is found of a file of rows, the lines that are printed from a group on are
-    // those of the file's rows from the group's first one on.
+    // If a file with rows has no findings, then lines that are printed of it from a group of a stripe on are
+    // those of the file's rows from the group's first row on.
     ensures lines { (bytes : List ℕ) (tail : Tail) (rows : List Cell) (stripe group : ℕ) (lines : List ℕ)
         → FileIs bytes tail rows → Findings bytes tail rows []
         → AreFrom bytes tail stripe group lines
         → lines ≡ row_lines tail.schema (drop (rows_before tail stripe group) rows) }
-    // Where nothing is found of it, the group is there and the rows have JSON, printing them is
-    // refused for the output, the source or memory alone.
+    // If a file with rows has no findings, the stripe has the group, and the rows have JSON, then printing the
+    // file from this group on fails only with `WriteFailed`, `SourceFailed` or `OutOfMemory`.
     ensures only { (bytes : List ℕ) (tail : Tail) (rows : List Cell) (stripe group : ℕ)
         (old new : Option (List ℕ)) (fault : CliFault)
         → FileIs bytes tail rows → Findings bytes tail rows []
