@@ -56,15 +56,27 @@ pub fn answer_to<'a, P: Place<'a>, W: Write>(
     request: Request<'_, 'a>,
     out: &mut W,
 ) -> Result<Outcome, Ending>
-    // A request is answered as its command's call says, as far as the place tells of the files;
-    // those that it reads are found before one is made, and one that is there isn't made anew.
+    // A request to print (`ints`, `rows`, `show`, `check`) leaves the place unchanged, and is answered as
+    // `ints_to`, `rows_to`, `show_to` or `check_to` promises of the digits, or of the bytes that the place
+    // knows at the path. If its file isn't found, the error is `SourceFailed` and the output's bytes are
+    // unchanged if they are known. A request to make a file (`write`, `merge`) prints nothing, and is answered
+    // as `write_lines` or `merge` promises of the bytes that the place knows at the inputs' paths and, at the
+    // end, of the file made. These promises leave out counts of failures and the layer that ran out of memory.
+    // A success is `Done`, except that a check with findings of a file that the place knows is `Found`. If an
+    // input isn't found, the place is unchanged and the error is `SourceFailed` or `OutOfMemory`. If all inputs
+    // are found and no file is made, the place is unchanged and the error is `WriteFailed` or `OutOfMemory`. If
+    // a file that the place didn't lack is made and not closed, the error is `WriteFailed`. A file that the
+    // place knows is found, except that a merge may fail with `OutOfMemory`, and is not made anew. A file that
+    // the place lacks is not found, and is made, empty, if it is the output and all inputs are found.
+    // `SourceFailed` of a file that was found comes only if such a source or such lines can fail, and
+    // `WriteFailed` of a file that was made and closed only if such an output can fail.
     ensures answered { Answers (P.told place.old) (P.lacks place.old) (P.made place.new) (place.new ≡ place.old)
         P.Input.failures P.Lines.failures P.Output.failures (W.contents out.old) (W.contents out.new)
         result request.entry }
-    // What the place tells of files that lay there first stays.
+    // The place knows the same as before of the files that lay there first.
     ensures stays { P.told place.new ≡ P.told place.old }
-    // Of every path but the one at which the request makes a file, the place tells the same made
-    // file as before.
+    // If the request doesn't make a file at a path, then the place knows the same as before of the file made at
+    // this path.
     ensures others { (path : List ℕ) → (IsMadeBy request.entry path → ⊥)
         → P.made place.new path ≡ P.made place.old path }
 {

@@ -33,52 +33,55 @@ pub trait Place<'a> {
 
     /// The file of a path, found now.
     fn open(&self, path: &'a str) -> Result<Self::Input, CliFault>
-        // A file that is opened tells what the place tells of its path.
+        // If the file is opened, then what is known of its bytes is what the place knows of the file at `path`.
         ensures told { IfOk result (λ input. Self.Input.told input ≡ told self.now path.now) }
-        // The one refusal is SourceFailed.
+        // An error is `SourceFailed`.
         ensures fault { IfErr result (λ fault. fault ≡ File file.SourceFailed) }
-        // A file that the place tells is found, and one that it lacks isn't.
+        // If the place knows the file at `path`, then the file is opened. If the place lacks a file at `path`,
+        // the call fails.
         ensures only { IsSome (told self.now path.now) → IsOk result }
         ensures lacking { lacks self.now path.now → IsErr result };
 
     /// The lines of the file of a path. That they can be read is seen before they are asked for.
     fn lines(&self, alloc: Global, path: &'a str) -> Result<Self::Lines, CliFault>
-        // The lines that are found tell what the place tells of their path.
+        // If lines are returned, then what is known of their remaining bytes is what the place knows of the
+        // file at `path`.
         ensures told { IfOk result (λ lines. Self.Lines.remaining lines ≡ told self.now path.now) }
-        // A refusal is SourceFailed or want of memory, and no other.
+        // An error is `SourceFailed` or `OutOfMemory`.
         ensures fault { IfErr result (λ fault. (fault ≡ File file.SourceFailed) ⊎ (fault ≡ File file.OutOfMemory)) }
-        // Lines of a file that the place tells are found, and those of one that it lacks aren't.
+        // If the place knows the file at `path`, then lines are returned. If the place lacks a file at `path`,
+        // the call fails.
         ensures only { IsSome (told self.now path.now) → IsOk result }
         ensures lacking { lacks self.now path.now → IsErr result };
 
     /// A new file of a path, without bytes. It must not be there yet.
     fn make(&mut self, alloc: Global, path: &'a str) -> Result<Self::Output, CliFault>
-        // Where the place lacks the path, a file is made there, without bytes, and the place tells
-        // it.
+        // If the place lacks a file at `path`, then an empty file is made, its bytes are known, and the place
+        // knows the file made at `path`.
         ensures made { lacks self.old path.now → IsOkAnd result (λ output. (Self.Output.told output ≡ Some [])
             × IsSome (made self.new path.now)) }
-        // Where the place tells a file that is there, it isn't made anew, and the refusal is
-        // WriteFailed.
+        // If the place knows the file at `path`, then the error is `WriteFailed`.
         ensures there { IsSome (told self.old path.now) → result ≡ Err write_failed }
-        // A refusal is WriteFailed or want of memory, and no other.
+        // An error is `WriteFailed` or `OutOfMemory`.
         ensures fault { IfErr result (λ fault. (fault ≡ write_failed) ⊎ (fault ≡ File file.OutOfMemory)) }
-        // Where no file is made, the place is as it was.
+        // If the call fails, then the place is unchanged.
         ensures unmade { OnErr result (self.new ≡ self.old) }
-        // What the place tells of files that lay there first stays, and so does what it tells of
-        // files made at other paths.
+        // The place knows the same as before of the files that lay there first, and of the files made at other
+        // paths than `path`.
         ensures stays { told self.new ≡ told self.old }
         ensures others { (other : List ℕ) → other ≢ path.now → made self.new other ≡ made self.old other };
 
     /// Lets go a new file, once what was written to it is at its path.
     fn close(&mut self, path: &'a str, output: Self::Output) -> Result<(), CliFault>
-        // Where it succeeds, the place tells at the path what the output told.
+        // If the call succeeds, then what the place knows of the file made at `path` is what was known of the
+        // bytes of `output`.
         ensures made { OnOk result (made self.new path.now ≡ Self.Output.told output) }
-        // The one refusal is WriteFailed.
+        // An error is `WriteFailed`.
         ensures fault { IfErr result (λ fault. fault ≡ write_failed) }
-        // Where the place tells the file that was made at the path, closing it succeeds.
+        // If the place knows the file made at `path`, then the call succeeds.
         ensures only { IsSome (made self.old path.now) → IsOk result }
-        // What the place tells of files that lay there first stays, and so does what it tells of
-        // files made at other paths.
+        // The place knows the same as before of the files that lay there first, and of the files made at other
+        // paths than `path`.
         ensures stays { told self.new ≡ told self.old }
         ensures others { (other : List ℕ) → other ≢ path.now → made self.new other ≡ made self.old other };
 }
