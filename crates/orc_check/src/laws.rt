@@ -30,9 +30,9 @@ pub fn finding_laws()
         → Contains found finding ↔ IsSo bytes tail (cut_rows tail.stripes rows) finding }
     // If bytes are a file with rows, then the file has no findings if and only if its stripe statistics are
     // those of the stripes' rows, its file statistics are those of all rows, and, if its stride is above 0,
-    // each column of each stripe has a row index with one entry for each group, with the group's statistic and
-    // positions. Element counts may be missing in all these statistics, and a file statistic has no sum if the
-    // sum of some stripe doesn't fit 64 bits.
+    // each column of each stripe has a row index of one entry for each group, with the group's statistic and
+    // with positions from which a reader continues at the group. Element counts may be missing in all these
+    // statistics, and a file statistic has no sum if the sum of some stripe doesn't fit 64 bits.
     ensures none { (bytes : List ℕ) (tail : Tail) (rows : List Cell) → FileIs bytes tail rows
         → Findings bytes tail rows [] ↔ (Honest tail rows × TellsWhole tail rows × HasIndexes bytes tail rows) }
     // If bytes are laid out as a writer writes a file of some rows, with any stride, and are a file with these

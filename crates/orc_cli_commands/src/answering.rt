@@ -62,14 +62,15 @@ pub fn answer_to<'a, P: Place<'a>, W: Write>(
     // unchanged if they are known. A request to make a file (`write`, `merge`) prints nothing, and is answered
     // as `write_lines` or `merge` promises of the bytes that the place knows at the inputs' paths and, at the
     // end, of the file made. These promises leave out counts of failures and the layer that ran out of memory.
-    // A success is `Done`, except that a check with findings of a file that the place knows is `Found`. If an
-    // input isn't found, the place is unchanged and the error is `SourceFailed` or `OutOfMemory`. If all inputs
-    // are found and no file is made, the place is unchanged and the error is `WriteFailed` or `OutOfMemory`. If
-    // a file that the place didn't lack is made and not closed, the error is `WriteFailed`. A file that the
-    // place knows is found, except that a merge may fail with `OutOfMemory`, and is not made anew. A file that
-    // the place lacks is not found, and is made, empty, if it is the output and all inputs are found.
-    // `SourceFailed` of a file that was found comes only if such a source or such lines can fail, and
-    // `WriteFailed` of a file that was made and closed only if such an output can fail.
+    // A success is `Done`, except that of `check`: for a file that the place knows it is `Found` if the file
+    // has findings, and `Done` if it has none. If an input isn't found, the place is unchanged and the error is
+    // `SourceFailed` or `OutOfMemory`. If all inputs are found and no file is made, the place is unchanged and
+    // the error is `WriteFailed` or `OutOfMemory`. If a file that the place didn't lack is made and not closed,
+    // the error is `WriteFailed`. A file that the place knows is found, except that a merge may fail with
+    // `OutOfMemory`, and is not made anew. A file that the place lacks is not found, and is made, empty, if it
+    // is the output and all inputs are found. `SourceFailed` of a file that was found comes only if such a
+    // source or such lines can fail, and `WriteFailed` of a file that was made and closed only if such an
+    // output can fail.
     ensures answered { Answers (P.told place.old) (P.lacks place.old) (P.made place.new) (place.new ≡ place.old)
         P.Input.failures P.Lines.failures P.Output.failures (W.contents out.old) (W.contents out.new)
         result request.entry }

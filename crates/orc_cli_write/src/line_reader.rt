@@ -19,8 +19,8 @@ pub trait LineReader {
     /// does. After a refusal the vector holds anything.
     fn next_line(&mut self, line: &mut Vec<u8>) -> Result<bool, LineFault>
         // If the call succeeds and the reader's remaining bytes are known, then false is returned if and only
-        // if none remained. With true, `line` is the next line, without its end, and the known bytes after this
-        // line and its end remain.
+        // if none remained. If true is returned, `line` is the next line, without its end, and the known bytes
+        // after this line and its end remain.
         ensures found { IfOk result (λ found. IfSome (remaining self.old)
             (λ bytes. HasRead found bytes line.new.items (remaining self.new))) }
         // Each `Failed` adds one to the reader's count of failures, and no other answer changes it.

@@ -76,10 +76,10 @@ pub fn grouping()
         → IsMerge inputs tail out → length out < 2 ^ 64
         → HaveRows inputs parts → FileIs out tail (rows.joined parts) }
 
-    // If the inputs of a grouping are files with one schema, version, writer, stride and other footer fields,
-    // and with all stripe statistics, and each file that a step below the root gives has fewer than 2^64 bytes,
-    // then one merge of all inputs is refused with `UserMetadataConflict` or `Limit` if and only if some step
-    // of the grouping is.
+    // If the inputs of a grouping are files with one schema, version, writer, writer version, stride and other
+    // footer fields, and with all stripe statistics, and each file that a step below the root gives has fewer
+    // than 2^64 bytes, then one merge of all inputs is refused with `UserMetadataConflict` or `Limit` if and
+    // only if some step of the grouping is.
     ensures refused { (groups : Groups) → AllShort groups
         → AreFellows (all_leaves groups)
         → IsFlatRefused groups ↔ IsStepRefused groups }
@@ -149,7 +149,7 @@ pub fn outcomes()
     // If inputs are refused with a fault, then they have no merged file.
     ensures none { (inputs : List (List ℕ)) (tail : Tail) (out : List ℕ) (fault : MergeFault)
         → IsMerge inputs tail out → IsRefused inputs fault → ⊥ }
-    // If inputs are refused with two faults, then these are equal, or both are `File` with the same input and
+    // If inputs are refused with two faults, then these are equal, or both are `File` with the same number and
     // with `BadTypes`.
     ensures single { (inputs : List (List ℕ)) (e f : MergeFault)
         → IsRefused inputs e → IsRefused inputs f → AreOne e f }

@@ -69,8 +69,8 @@ pub fn merge_theorem()
         → (it_is_their_merge : IsMerge files tail out)
         → (it_has_fewer_than_2_64_bytes : length out < 2 ^ 64)
         → IsTail out tail }
-    // If each of some files has rows, and their merged file has fewer than 2^64 bytes, then the merged file is
-    // a file with the merged tail and the rows of these files, in order.
+    // If files have rows, and their merged file has fewer than 2^64 bytes, then the merged file is a file with
+    // the merged tail and the rows of the files, in order.
     ensures rows { (files : List (List ℕ)) (tail : Tail) (out : List ℕ) (parts : List (List Cell))
         → (it_is_their_merge : IsMerge files tail out)
         → (it_has_fewer_than_2_64_bytes : length out < 2 ^ 64)
@@ -112,10 +112,10 @@ pub fn merge_theorem()
         ≡ (each_fits tail.schema (cut_rows tail.stripes (joined parts)) column
         && has_sum (column_stat tail.schema (joined parts) column).body)) }
 
-    // If the files of a grouping have one schema, version, writer, stride and other footer fields, and all
-    // stripe statistics, and each file that a step below the root gives has fewer than 2^64 bytes, then one
-    // merge of all these files is refused with `UserMetadataConflict` or `Limit` if and only if some step of
-    // the grouping is.
+    // If the files of a grouping have one schema, version, writer, writer version, stride and other footer
+    // fields, and all stripe statistics, and each file that a step below the root gives has fewer than 2^64
+    // bytes, then one merge of all these files is refused with `UserMetadataConflict` or `Limit` if and only if
+    // some step of the grouping is.
     ensures refused { (groups : Groups)
         → (steps_below_give_fewer_than_2_64_bytes : AllShort groups)
         → (files_open_and_agree : AreFellows (all_leaves groups))

@@ -87,16 +87,16 @@ pub fn join_in_steps(
     second: &[u8],
     third: &[u8],
 ) -> Result<FileInMemory, MergeFault>
-    // If joining succeeds, then the returned bytes are those that two merges wrote: the first of `first` and
-    // `second`, the second of what the first merge wrote and `third`.
+    // If joining succeeds, then `first` and `second` were merged, and what this wrote was merged with `third`
+    // into the returned bytes.
     ensures wrote { IfOk result (λ done. Wrote (first_two first.now second.now third.now) done.bytes.items) }
     // If joining succeeds, then the returned bytes are the merged file of `first`, `second` and `third`, in
     // this order, which has fewer than 2^64 bytes, and the returned tail is its tail.
     ensures merged { IfOk result (λ done.
         WroteMerge (first.now ∷ second.now ∷ third.now ∷ []) done.tail (Some []) (Some done.bytes.items)) }
-    // If the error is `UserMetadataConflict` or `Limit`, and the three files have one schema, version, writer,
-    // stride and other footer fields, and all stripe statistics, then one merge of the three files is refused
-    // with `UserMetadataConflict` or `Limit`, too.
+    // If the error is `UserMetadataConflict` or `Limit`, and the three inputs are files with one schema,
+    // version, writer, writer version, stride and other footer fields, and with all stripe statistics, then one
+    // merge of the three files is refused with `UserMetadataConflict` or `Limit`, too.
     ensures refused { IfErr result (λ e. ComesOfJoining e
         → AreFellows (first.now ∷ second.now ∷ third.now ∷ [])
         → (fault : MergeFault) × ComesOfJoining fault × IsRefused (first.now ∷ second.now ∷ third.now ∷ []) fault) }

@@ -26,7 +26,7 @@ use orc_merger::grouping;
 /// others may be right, and name a run far in front of the value.
 pub fn writers_positions()
     // If `finish` succeeded, then what it wrote is a file with the returned tail and the rows that were pushed.
-    // If its stride is above 0, each column of each stripe has the row index that a writer writes of the
+    // If its stride is above 0, each column of each stripe has the row index that a writer writes from the
     // column's streams and cells.
     ensures written { (options : Options) (schema : Shape) (tail : Tail) (first told : Option (List ℕ)) (rows : List Cell)
         → (finish_wrote : IsWhole options schema tail first told rows)

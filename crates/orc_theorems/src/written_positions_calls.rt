@@ -139,7 +139,8 @@ pub fn write_and_seek(
     column: usize,
     group: usize,
 ) -> Result<ColumnSought, FileFault>
-    // If the call succeeds, then at most one run was read in each of the column's streams to reach the group.
+    // If the call succeeds, then at most one run was read in each of the column's streams of runs to reach the
+    // group.
     ensures one_run { IfOk result ReadOneEach }
 {
     // for its contract alone: from a writer's positions one run is read at most
@@ -162,7 +163,7 @@ pub fn join_and_seek(
     group: usize,
 ) -> Result<ColumnSought, CallFault>
     // If the call succeeds, and `first` and `second` were written by `finish`, then at most one run was read in
-    // each of the column's streams to reach the group.
+    // each of the column's streams of runs to reach the group.
     ensures one_run { (rows others : List Cell)
         → WasWritten first.now rows
         → WasWritten second.now others

@@ -135,8 +135,8 @@ impl<S: Source> OrcFile<S> {
             → (result ≡ Err Limit) × ((self.new ≡ self.old) × (into.new ≡ into.old)) }
         // If the call succeeds, then stripe `number` is no longer than the file's cap.
         ensures within { OnOk result (stripe_length (stripe_at self.old.tail.stripes number) ≤ self.old.cap) }
-        // An error is `OutOfMemory`, `SourceFailed`, or, only if stripe `number` is longer than the file's cap,
-        // `Limit`.
+        // An error is `OutOfMemory`, `SourceFailed` or `Limit`, and `Limit` comes only if stripe `number` is
+        // longer than the file's cap.
         ensures fault { IfErr result (λ fault. (fault ≡ OutOfMemory) ⊎ ((fault ≡ SourceFailed)
             ⊎ ((fault ≡ Limit) × (self.old.cap < stripe_length (stripe_at self.old.tail.stripes number))))) }
         // If the file's cap is 2^64 - 1, then an error is `OutOfMemory` or `SourceFailed`.

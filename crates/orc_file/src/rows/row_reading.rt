@@ -125,9 +125,9 @@ impl<S: Source> OrcFile<S> {
         // are unknown.
         ensures limit { IsErrOf result Limit → AllWithin self.old.cap self.old.tail.stripes → ⊥ }
         // An error is `SourceFailed`, or the source's count of failures is unchanged and the error is one of
-        // three: `OutOfMemory`; `Limit`, if some stripe is longer than the file's cap; or `Stripe` with the
-        // number of a stripe that is no longer than the cap and the reason, never `OutOfMemory`, why some bytes
-        // of this stripe's length are not this stripe with any rows.
+        // three: `OutOfMemory`; `Limit`, only if some stripe is longer than the file's cap; or `Stripe` with
+        // the number of a stripe that is no longer than the cap and the reason, never `OutOfMemory`, why some
+        // bytes of this stripe's length are not this stripe with any rows.
         ensures unfailed { IfErr result (λ fault. (fault ≡ SourceFailed)
             ⊎ (IsOfRows self.old.cap self.old.tail fault
             × (S.failures self.new.source ≡ S.failures self.old.source))) }

@@ -45,7 +45,7 @@ impl<W: Sink> Writer<W> {
         options: Options,
         out: W,
     ) -> Result<Writer<W>, (FileFault, W)>
-        // If the writer is made, then no row is pushed to it, and its output has got exactly `ORC` if the
+        // If the writer is made, then no row has been pushed to it, and its output has got exactly `ORC` if the
         // output's bytes are known.
         ensures pushed { IfOk result (λ w. HasPushed (progress W.told w) (W.told out) []) }
         // If the writer is made, then it has `schema` and `options`, and has not failed.
@@ -358,12 +358,12 @@ impl<W: Sink> Writer<W> {
         // or `OutOfMemory`. `Failed` comes if and only if an earlier call failed. If none failed, `RowShape`
         // comes if and only if `row` doesn't fit the schema. If none failed, `row` fits, and with `row` a limit
         // of stripes, of rows or of a column's cells in a stripe would be passed, the error is `Limit` and the
-        // writer has not failed. The writer's counts pass such a limit if and only if the rows pushed do.
-        // `Limit` without the writer having failed comes only if such a limit would be passed. `Limit` after
-        // which the writer has failed comes only if `row` fills the open stripe and with this stripe the file's
-        // stripes would have more than 2^40 bytes. The writer has failed after `WriteFailed`, after
-        // `OutOfMemory` and if an earlier call failed; it has not failed after a success or `RowShape`. After
-        // an error by which the writer did not fail, its output, stripes, statistics, rows and counts are
+        // writer has not failed. By the writer's counts such a limit would be passed if and only if it would by
+        // the rows pushed. `Limit` without the writer having failed comes only if such a limit would be passed.
+        // `Limit` after which the writer has failed comes only if `row` fills the open stripe and with this
+        // stripe the file's stripes would have more than 2^40 bytes. The writer has failed after `WriteFailed`,
+        // after `OutOfMemory` and if an earlier call failed; it has not failed after a success or `RowShape`.
+        // After an error by which the writer did not fail, its output, stripes, statistics, rows and counts are
         // unchanged. If the writer fails by this push and the output's bytes are known, the output has got a
         // prefix of a file of the first n of the rows pushed, `row` included, for some n. If the writer counted
         // as many bytes as the output had got, it still does. The output's count of failures is higher if the
@@ -392,12 +392,12 @@ impl<W: Sink> Writer<W> {
         // or `OutOfMemory`. `Failed` comes if and only if an earlier call failed. If none failed, `RowShape`
         // comes if and only if `row` doesn't fit the schema. If none failed, `row` fits, and with `row` a limit
         // of stripes, of rows or of a column's cells in a stripe would be passed, the error is `Limit` and the
-        // writer has not failed. The writer's counts pass such a limit if and only if the rows pushed do.
-        // `Limit` without the writer having failed comes only if such a limit would be passed. `Limit` after
-        // which the writer has failed comes only if `row` fills the open stripe and with this stripe the file's
-        // stripes would have more than 2^40 bytes. The writer has failed after `WriteFailed`, after
-        // `OutOfMemory` and if an earlier call failed; it has not failed after a success or `RowShape`. After
-        // an error by which the writer did not fail, its output, stripes, statistics, rows and counts are
+        // writer has not failed. By the writer's counts such a limit would be passed if and only if it would by
+        // the rows pushed. `Limit` without the writer having failed comes only if such a limit would be passed.
+        // `Limit` after which the writer has failed comes only if `row` fills the open stripe and with this
+        // stripe the file's stripes would have more than 2^40 bytes. The writer has failed after `WriteFailed`,
+        // after `OutOfMemory` and if an earlier call failed; it has not failed after a success or `RowShape`.
+        // After an error by which the writer did not fail, its output, stripes, statistics, rows and counts are
         // unchanged. If the writer fails by this push and the output's bytes are known, the output has got a
         // prefix of a file of the first n of the rows pushed, `row` included, for some n. If the writer counted
         // as many bytes as the output had got, it still does. The output's count of failures is higher if the
@@ -506,7 +506,7 @@ impl<W: Sink> Writer<W> {
         ensures write_failed { IfErr result (λ e. e.0 ≡ fault.WriteFailed → W.failures self.out < W.failures e.1) }
         ensures memory { IfErr result (λ e. e.0 ≡ fault.OutOfMemory → W.failures e.1 ≡ W.failures self.out) }
         ensures no_failure { IfOk result (λ done. W.failures done.1 ≡ W.failures self.out) }
-        // If the error is not `WriteFailed`, then the output's count of failures is unchanged.
+        // If the call fails with any error but `WriteFailed`, then the output's count of failures is unchanged.
         ensures unfailed { IfErr result
             (λ e. (e.0 ≡ fault.WriteFailed) ⊎ (W.failures e.1 ≡ W.failures self.out)) }
     {
