@@ -91,8 +91,8 @@ pub fn check<S: Source>(alloc: Global, source: &mut S) -> Result<Vec<Finding>, F
     // An error is `SourceFailed`, `OutOfMemory`, the fault of a test of a tail, or `Stripe` with a number below
     // 65,536 and a reason, never `OutOfMemory`, why some bytes are not a stripe with any rows.
     ensures named { IfErr result (λ fault. (fault ≡ SourceFailed) ⊎ IsOfCheck fault) }
-    // The source has its former length, and the same is known of its bytes. The source's count of failures is
-    // higher if the error is `SourceFailed`, and otherwise unchanged.
+    // The source has its former length, and the same is known of its bytes. Its count of failures rises with
+    // `SourceFailed`, and stays the same otherwise.
     ensures source { LeavesSource S.told S.size S.failures SourceFailed (λ fault. fault ≡ OutOfMemory)
         source.old source.new result }
     ensures unfailed { IfErr result (λ fault. (fault ≡ SourceFailed)

@@ -218,8 +218,8 @@ pub fn rows_to<S: Source, W: Write>(
         × (S.failures e.1 ≡ S.failures source)
         × Keeps (W.contents out.old) (W.contents out.new)) }
     // The source, which a success and an error return, has its former length, and the same is known of its
-    // bytes. The source's count of failures is unchanged if the call succeeds or the error is `OutOfMemory`,
-    // and higher if the error is `SourceFailed`.
+    // bytes. Its count of failures rises with `SourceFailed`, and stays the same after a success and after
+    // `OutOfMemory`.
     ensures source { HandsBackSource S.told S.size S.failures (File SourceFailed) IsWantOfMemory (λ back. back)
         source result }
     // If the error is `OutOfMemory`, then it is that of `Json` or that of `File`.

@@ -111,8 +111,8 @@ pub fn write_from<W: Sink>(
     // given to the writer after any error of `Json`, and after any other error a prefix of a file of the first
     // n of these rows, for some n.
     ensures refused { IfErr result (λ e. RefusesWrite options schema.now input.now (W.told out) (W.told e.1) e.0) }
-    // The output's count of failures is unchanged if the call succeeds or the error is `OutOfMemory`, and
-    // higher if the error is `WriteFailed`.
+    // The output's count of failures rises with `WriteFailed`, and stays the same after a success and after
+    // `OutOfMemory`.
     ensures out { HandsBackSink W.failures write_failed IsWantOfMemory (λ done. done.1) out result }
     // If the error is `OutOfMemory`, then it is that of `Json`, that of `File`, or that of `Types`, and after
     // that of `Types` the output's bytes are unchanged if they are known.

@@ -120,9 +120,9 @@ impl<S: Source> OrcFile<S> {
         requires { number < length self.old.tail.stripes }
         // If the call succeeds, then `into` has as many bytes as stripe `number`, and they are the stripe's
         // bytes if the source's bytes are known. In any case the source has its former length, and the same is
-        // known of its bytes. The source's count of failures is unchanged if the call succeeds or the error is
-        // `OutOfMemory`, and higher if the error is `SourceFailed`. `OutOfMemory` comes only if the capacity of
-        // `into` was less than the stripe's length.
+        // known of its bytes. Its count of failures rises with `SourceFailed`, and stays the same after a
+        // success and after `OutOfMemory`. `OutOfMemory` comes only if the capacity of `into` was less than the
+        // stripe's length.
         ensures loaded { LoadsStripe S.told S.size S.failures self.old.source self.new.source
             (stripe_at self.old.tail.stripes number) (vec_capacity into.old) into.new.items result }
         // The file keeps its tail and its cap.

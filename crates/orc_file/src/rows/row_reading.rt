@@ -133,9 +133,8 @@ impl<S: Source> OrcFile<S> {
             × (S.failures self.new.source ≡ S.failures self.old.source))) }
         // If the file's cap is 2^64 - 1, as `OrcFile::open` makes it, then no stripe is longer than the cap.
         ensures uncapped { self.old.cap ≡ no_cap → AllWithin self.old.cap self.old.tail.stripes }
-        // The source has its former length, and the same is known of its bytes. The source's count of failures
-        // is unchanged if rows are returned or the error is `OutOfMemory`, and higher if the error is
-        // `SourceFailed`.
+        // The source has its former length, and the same is known of its bytes. Its count of failures rises
+        // with `SourceFailed`, and stays the same after a success and after `OutOfMemory`.
         ensures source { LeavesSource S.told S.size S.failures SourceFailed (λ fault. fault ≡ OutOfMemory)
             self.old.source self.new.source result }
     {

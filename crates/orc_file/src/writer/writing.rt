@@ -59,8 +59,8 @@ impl<W: Sink> Writer<W> {
         // If the call fails and the output's bytes are known, then the output has got a prefix of a file
         // without rows.
         ensures cut { IfErr result (λ e. IsCutOff options schema (W.told out) (W.told e.1) []) }
-        // The output's count of failures is unchanged if the writer is made or the error is `OutOfMemory`, and
-        // higher if the error is `WriteFailed`.
+        // The output's count of failures rises with `WriteFailed`, and stays the same after a success and after
+        // `OutOfMemory`.
         ensures write_failed { IfErr result (λ e. e.0 ≡ fault.WriteFailed → W.failures out < W.failures e.1) }
         ensures memory { IfErr result (λ e. e.0 ≡ fault.OutOfMemory → W.failures e.1 ≡ W.failures out) }
         ensures no_failure { IfOk result (λ w. W.failures w.out ≡ W.failures out) }
@@ -366,8 +366,8 @@ impl<W: Sink> Writer<W> {
         // After an error by which the writer did not fail, its output, stripes, statistics, rows and counts are
         // unchanged. If the writer fails by this push and the output's bytes are known, the output has got a
         // prefix of a file of the first n of the rows pushed, `row` included, for some n. If the writer counted
-        // as many bytes as the output had got, it still does. The output's count of failures is higher if the
-        // error is `WriteFailed`, and otherwise unchanged.
+        // as many bytes as the output had got, it still does. The output's count of failures rises with
+        // `WriteFailed`, and stays the same otherwise.
         ensures takes { TakesRow W.told W.failures self.old self.new (view row.entry) result }
     {
         let pushed = self.push(&row);
@@ -400,8 +400,8 @@ impl<W: Sink> Writer<W> {
         // After an error by which the writer did not fail, its output, stripes, statistics, rows and counts are
         // unchanged. If the writer fails by this push and the output's bytes are known, the output has got a
         // prefix of a file of the first n of the rows pushed, `row` included, for some n. If the writer counted
-        // as many bytes as the output had got, it still does. The output's count of failures is higher if the
-        // error is `WriteFailed`, and otherwise unchanged.
+        // as many bytes as the output had got, it still does. The output's count of failures rises with
+        // `WriteFailed`, and stays the same otherwise.
         ensures takes { TakesRow W.told W.failures self.old self.new (view row.now) result }
     {
         self.admit(row)?;
@@ -501,8 +501,8 @@ impl<W: Sink> Writer<W> {
             → HasPushed (progress W.told self) first rows
             → self.failed ≡ false
             → IfErr result (λ e. IsCutOff self.options self.schema first (W.told e.1) rows) }
-        // The output's count of failures is unchanged if the call succeeds or the error is `OutOfMemory`, and
-        // higher if the error is `WriteFailed`.
+        // The output's count of failures rises with `WriteFailed`, and stays the same after a success and after
+        // `OutOfMemory`.
         ensures write_failed { IfErr result (λ e. e.0 ≡ fault.WriteFailed → W.failures self.out < W.failures e.1) }
         ensures memory { IfErr result (λ e. e.0 ≡ fault.OutOfMemory → W.failures e.1 ≡ W.failures self.out) }
         ensures no_failure { IfOk result (λ done. W.failures done.1 ≡ W.failures self.out) }
