@@ -1,0 +1,64 @@
+"""Carries records over to a text that says the same in other words.
+
+A line is carried over if the edit, the function that it changes with its contract, and the heads of what this calls are word for word
+what they were, each name of scripts/kept/names-turned-back read as the old one. Definitions may differ. The line gets the new sums, and
+keeps its `tried=`, which says on which text the edit was really tried."""
+from .edits import edits_of
+from .records import Line, Record, record_of
+from .spelling import kept_names
+from .sums import Sums
+
+SAME = {"edit": "the edit", "function": "its function", "heads": "a head", "heads_below": "a head of a crate below"}
+
+
+def carried(line, sums, names):
+    """Returns a record's line with new sums, and its goals by their new names."""
+    goals = [(names.brought_forward(function), names.brought_forward(goal)) for function, goal in line.goals]
+    proved = names.brought_forward(line.proved) if line.proved else line.proved
+    return Line(line.file, sums, line.tried, line.seconds, goals, proved)
+
+
+def carry(crates, sources, kit):
+    """Carries over what it can of these crates' records, and returns how many lines it carried, and why it couldn't carry others."""
+    names = kept_names()
+    present, turned = Sums(sources), Sums(sources, names)
+    count, refused = 0, []
+    for crate in crates:
+        old = record_of(crate)
+        if not old.lines:
+            continue
+        if not old.is_of(kit):
+            refused.append(f"{crate}: its record is of a kit of another logic")
+            continue
+        record = Record(crate, old.kit, old.lines.values())
+        for edit in edits_of(crate):
+            line, why = carried_line(edit, old, present, turned, names)
+            if line:
+                record.lines[edit.file] = line
+                count += 1
+            refused += [f"{edit}: {why}"] if why else []
+        record.lines = {it.file: record.lines[it.file] for it in edits_of(crate) if it.file in record.lines}
+        if [it.printed() for it in record.lines.values()] != [it.printed() for it in old.lines.values()]:
+            record.write()
+    return count, refused
+
+
+def differing(line, sums):
+    return [words for it, words in SAME.items() if line.sums[it] != sums[it]]
+
+
+def carried_line(edit, old, present, turned, names):
+    """Returns the line that is carried over for an edit, or why none is, or neither if its line is of the present text."""
+    line = old.lines.get(edit.file) or old.lines.get(names.turned_back(edit.file))
+    if not line:
+        return None, "no record says that it was tried"
+    sums = present.of(edit)
+    if line.file == edit.file and line.sums == sums:
+        return None, None
+    # (a line may be of a text after the names were changed, or before)
+    differs = min((differing(line, it) for it in (sums, turned.of(edit))), key=len)
+    if differs:
+        return None, f"{' and '.join(differs)} isn't word for word what it was"
+    line = carried(line, sums, names)
+    line.file = edit.file
+    return line, None
