@@ -3,6 +3,9 @@ import os
 import re
 
 from read_definitions.texts import ROOT, text_of
+from wrong_bodies import edits as files
+from wrong_bodies.clauses import Broken
+from wrong_bodies.records import record_of
 
 # the goals that are clauses of the function itself (in a ring of functions a goal begins with its function's name)
 RETURNS = re.compile(r"^(?:\w+-)?returns\b")
@@ -11,15 +14,18 @@ RETURNS = re.compile(r"^(?:\w+-)?returns\b")
 class Edit:
     """A wrong body: its name, the function that it changes, the clause that refused it, and of which `impl` it is."""
 
-    def __init__(self, crate, file, goal):
-        function, _, name = file.removesuffix(".edit").partition(".")
+    def __init__(self, crate, file, path, goal):
+        function, _, name = file[: -len(".edit")].partition(".")
         self.crate = crate
         self.file = file
         self.function = function
         self.name = name
         # (what `must-fail/` has is tried by each run, and no record says which goal refused it)
-        self.is_of_each_run = goal is None
-        self.path, _, self.goal = (goal or "").partition(": ")
+        self.is_of_each_run = path is None
+        self.path = path or ""
+        self.goal = goal
+        # the clause that it says to break, with its function; a condition of another function isn't one of this function's clauses
+        self.broken = None
         self.clause = None
         self.of = ""
 
@@ -33,13 +39,19 @@ class Edit:
 
 def edits_of(crate):
     """Returns a crate's wrong bodies: those that its record says to be refused, and those that each run tries."""
-    record = f"crates/{crate}/wrong-bodies/tried"
-    lines = text_of(record).splitlines()[3:] if os.path.isfile(f"{ROOT}/{record}") else []
-    found = [Edit(crate, *it.split(" ", 2)[1:]) for it in lines if it.count(" ") > 1]
-    found = [it for it in found if os.path.isfile(f"{ROOT}/{it.folder()}/{it.file}")]
+    lines = record_of(crate).lines
+    found = [recorded(it, lines[it.file]) for it in files.edits_of(crate) if it.file in lines and not it.is_control]
     folder = f"{ROOT}/crates/{crate}/must-fail"
     names = sorted(os.listdir(folder)) if os.path.isdir(folder) else []
-    return found + [Edit(crate, it, None) for it in names if it.endswith(".edit")]
+    return found + [Edit(crate, it, None, "") for it in names if it.endswith(".edit")]
+
+
+def recorded(edit, line):
+    """Returns an edit with the first goal that its record says to have been left open, and the first clause that it says to break."""
+    path, goal = line.goals[0] if line.goals else ("", "")
+    found = Edit(edit.crate, edit.file, path, goal)
+    found.broken = Broken(edit.breaks[0]) if edit.breaks else None
+    return found
 
 
 def place_edits(calls, edits):
@@ -76,17 +88,25 @@ def at_place(edit, calls):
 
 def promising(edit, changed, calls):
     """Returns the function whose clause refused an edit: the one that it changes, or the trait's of which this is an `impl`."""
-    named = re.search(r"-clause-(\w+)$", edit.goal) if RETURNS.search(edit.goal) else None
-    edit.clause = named[1] if named else None
+    named = clause_of(edit)
+    edit.clause = named
     for it in [changed, *of_trait(changed, calls)]:
         own = it.ensured()
         # (where there is one clause the goal doesn't name it)
-        if not named and len(own) == 1 and RETURNS.search(edit.goal):
+        if not named and not edit.broken and len(own) == 1 and RETURNS.search(edit.goal):
             edit.clause = own[0]
         if edit.clause in own or (own and not edit.clause):
             edit.of = "" if it is changed else changed.parts[0]
             return it
     return changed
+
+
+def clause_of(edit):
+    """Returns the clause of its function that an edit says to break, or else the one that the first open goal names."""
+    if edit.broken:
+        return None if edit.broken.is_condition else edit.broken.clause
+    named = re.search(r"-clause-(\w+)$", edit.goal) if RETURNS.search(edit.goal) else None
+    return named[1] if named else None
 
 
 def of_trait(changed, calls):
