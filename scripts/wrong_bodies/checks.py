@@ -31,6 +31,11 @@ class Checker:
         self.lock = threading.Lock()
         self.is_stopped = False
 
+    def is_proved(self, crate):
+        """Returns whether it is known by now that a crate is proved as it stands."""
+        del crate
+        return False
+
     def words(self, crate):
         """Returns the command, and nothing and why if a crate can't be checked."""
         del crate
@@ -81,6 +86,10 @@ class LibraryChecker(Checker):
         self.tree = os.path.realpath(tree)
         self.kit = kit_folder()
         self.known = {}
+
+    def is_proved(self, crate):
+        # (`rt ci` leaves a library only of what it proved)
+        return self.unfit(crate) is None
 
     def words(self, crate):
         if crate not in self.known:

@@ -2,6 +2,7 @@
 import re
 
 REQUIRES = re.compile(r"^(\w+)(?:-\w+)*?-requires\b")
+CLAUSE_START = re.compile(r"^returns\b|^\w+(?:-\w+)*?-requires\b|^(?:loop|invariant_of)-")
 
 
 class Broken:
@@ -54,9 +55,6 @@ def goal_of(goal, name):
     return rest if CLAUSE_START.search(rest) else goal
 
 
-CLAUSE_START = re.compile(r"^returns\b|^\w+(?:-\w+)*?-requires\b|^(?:loop|invariant_of)-")
-
-
 def stands_for(goal, broken, place, sources):
     """Returns whether an open goal of a function stands for a clause."""
     rest = goal_of(goal, place.name)
@@ -75,6 +73,7 @@ def not_open(edit, goals, places, sources):
     missing = []
     for text in edit.breaks:
         broken = Broken(text)
-        if not any(stands_for(goal, broken, place, sources) for _, goal in goals for place in places):
+        own = [(place, goal) for place in places for function, goal in goals if function.rpartition("::")[2] == place.name]
+        if not any(stands_for(goal, broken, place, sources) for place, goal in own):
             missing.append(text)
     return missing

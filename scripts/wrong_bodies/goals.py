@@ -35,8 +35,8 @@ def function_at(file, line):
 
 
 def is_proof_of(function, place, goal):
-    """Returns whether a goal of the proof in that folder is of the function: a ring of functions has one proof, where a goal begins with its
-    function's name unless the ring is one function."""
+    """Returns whether a goal of the proof in that folder is of the function: a ring of functions has one proof, in which a goal begins
+    with its function's name unless the ring is one function."""
     *modules, name = function.split("::")[1:]
     above, _, last = place.rpartition("/")
     ring = last.startswith("+") and goal.startswith(f"{name}-")

@@ -141,7 +141,7 @@ class Writer:
 
 def run(states, checker, sources, keep, with_base):
     """Tries the edits of these states, and returns the benches with what came of them. With a base, a crate's edits come once the check
-    says that it is proved as it stands: only then does a refusal say something."""
+    says that it is proved as it stands, if nothing else has said so: only then does a refusal say something."""
     by_crate = {}
     for it in states:
         by_crate.setdefault(it.edit.crate, []).append(it)
@@ -154,7 +154,7 @@ def run(states, checker, sources, keep, with_base):
             it.start()
         try:
             for crate, of_crate in by_crate.items():
-                known = base(checker, crate) if with_base else known_of(of_crate)
+                known = base(checker, crate) if with_base and not checker.is_proved(crate) else known_of(of_crate)
                 if known is not None:
                     benches.append(Bench(crate, of_crate, known))
                     trial.add(benches[-1])
