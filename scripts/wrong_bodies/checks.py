@@ -9,6 +9,7 @@ from read_definitions.texts import ROOT
 
 from .crates import all_below, files_below, libraries, lines_of_crates
 from .kit import kit_folder
+from .spelling import spelled, spelled_definition
 
 
 class Said:
@@ -117,25 +118,28 @@ class LibraryChecker(Checker):
 
     def unfit(self, crate):
         """Returns why the library of a crate can't be used, and nothing if it can: `rt ci` left it there, and it is of this text."""
-        made = f"{self.rlib(crate)}/format"
-        if not os.path.isfile(made):
-            return f"`rt ci` left no library of {crate} in {os.path.dirname(os.path.dirname(made))}"
-        if os.path.exists(f"{self.tree}/crates/{crate}/out/rlib/stamp"):
+        made = self.rlib(crate)
+        if not os.path.isfile(f"{made}/format"):
+            return f"`rt ci` left no library of {crate} in {os.path.dirname(made)}"
+        if os.path.exists(f"{os.path.dirname(made)}/stamp"):
             return f"the library of {crate} is one of `rt check`, and not of `rt ci`"
         for part in ("src", "specs", "proofs"):
             for it in files_below(f"{ROOT}/crates/{crate}/{part}"):
                 if not self.is_of_library(it, made):
-                    return f"{os.path.relpath(it, ROOT)} is newer than the library of {crate} that `rt ci` left"
+                    return f"the library of {crate} that `rt ci` left is of another {os.path.relpath(it, ROOT)}"
         return None
 
     def is_of_library(self, file, made):
-        """Returns whether a file was there when a library was made; in another tree than this one it has to be the same there."""
+        """Returns whether a file was there when a library was put into its place; in another tree than this one it has to be the same there.
+        (The library's own files may be older: `rt ci` keeps what passed, and links it.)"""
         other = f"{self.tree}/{os.path.relpath(file, ROOT)}"
         if not os.path.isfile(other) or os.path.getmtime(other) > os.path.getmtime(made):
             return False
-        return self.tree == os.path.realpath(ROOT) or read(file) == read(other)
+        return self.tree == os.path.realpath(ROOT) or spelled_file(file) == spelled_file(other)
 
 
-def read(path):
-    with open(path, "rb") as file:
-        return file.read()
+def spelled_file(path):
+    """Returns a file's text without its comments, which no other crate's proof reads."""
+    with open(path, encoding="utf-8") as file:
+        text = file.read()
+    return spelled(text) if path.endswith(".rt") else spelled_definition(text)
