@@ -2,6 +2,7 @@
 import os
 
 from .forms import Forms, named_faults, reason_faults
+from .picking import MOST_STALE, too_many
 
 
 def print_stale(states):
@@ -34,9 +35,12 @@ def compare(states, sources, crates):
     print(f"{len(tried)} of {len(states)} tried on this text")
     print(f"{len(old)} of the old form, {sum(it.is_excused for it in old)} of them stale by a floor below")
     count(states, crates)
-    failed = sum(it.is_stale for it in states) + len(faults)
-    print(f"{sum(not it.is_stale for it in states)} passed, {failed} failed")
-    return 1 if failed else 0
+    stale = [it for it in states if it.is_stale]
+    if len(stale) > MOST_STALE:
+        print(too_many(stale, MOST_STALE))
+    print(f"{len(states) - len(stale)} passed, {len(stale) + len(faults)} failed")
+    # (the gate goes on if all that is wrong is some stale edits, which it tries)
+    return 1 if faults or len(stale) > MOST_STALE else 3 if stale else 0
 
 
 def count(states, crates):

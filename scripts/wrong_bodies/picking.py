@@ -39,33 +39,43 @@ def try_some(states, key, minutes, checker, sources):
         seconds += sum(one.seconds for one in it.outcomes)
         # (what a control that fails vouches for counts for nothing)
         well += 0 if it.control_failed else sum(not one.why for one in it.outcomes)
-    print(f"tried again: {len(chosen)} of {len(states)}, in {seconds / 60:.1f} processor minutes")
+    here = {str(it.edit) for it in states if it.is_valid and it.line.is_tried_here}
+    here |= {str(one.edit) for it in benches if not it.control_failed for one in it.outcomes if not one.why}
+    print(f"{len(here)} of {len(states)} tried on this text, {len(chosen)} of them in this run, in {seconds / 60:.1f} processor minutes")
     print(f"{well} passed, {len(chosen) - well} failed")
     return 0 if well == len(chosen) else 1
+
+
+def command(stale):
+    """Returns the command that tries stale edits and writes their records."""
+    return f"scripts/try-wrong-bodies {' '.join(dict.fromkeys(it.edit.crate for it in stale))}"
+
+
+def too_many(stale, most):
+    """Returns what is said of more stale edits than a run of the gate tries."""
+    minutes = sum(seconds_of(it) for it in stale) / 60
+    return f"{len(stale)} edits are stale, more than {most}: {command(stale)} takes {minutes:.0f} processor minutes"
 
 
 def try_stale(states, most, checker, sources):
     """Tries the edits whose records are of another text, prints their new lines, and returns the exit status: each fails as stale."""
     stale = [it for it in states if it.is_stale]
-    crates = " ".join(dict.fromkeys(it.edit.crate for it in stale))
     if len(stale) > most:
-        minutes = sum(seconds_of(it) for it in stale) / 60
-        print(f"{len(stale)} edits are stale, more than {most}: scripts/try-wrong-bodies {crates} takes {minutes:.0f} processor minutes")
+        print(too_many(stale, most))
         print(f"0 passed, {len(stale)} failed")
         return 1
     by_name = {str(it.edit): it for it in stale}
+    lines = []
 
     def keep(bench, outcome):
         line = None if outcome.why else outcome.line(by_name[str(outcome.edit)].sums)
-        print_new(bench.crate, line)
+        if isinstance(line, Line):
+            lines.append(f"crates/{bench.crate}/wrong-bodies/tried: {line.printed()}")
 
     if stale:
         run(stale, checker, sources, keep, with_base=False)
-        print(f"stale: write their records by scripts/try-wrong-bodies {crates}")
+        print("\n".join(sorted(lines)))
+        print(f"stale: write their records by {command(stale)}")
     print(f"0 passed, {len(stale)} failed")
     return 1 if stale else 0
 
-
-def print_new(crate, line):
-    if isinstance(line, Line):
-        print(f"crates/{crate}/wrong-bodies/tried: {line.printed()}", flush=True)
