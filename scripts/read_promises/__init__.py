@@ -1,1 +1,1 @@
-"""What scripts/promises is made of: it reads which calls a user of a crate can reach, what each promises, and which wrong bodies it refuses."""
+"""What scripts/promises is made of: it reads which calls users of crates can reach, what each promises, and whether that stands."""

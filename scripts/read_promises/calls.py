@@ -1,4 +1,4 @@
-"""The functions of a crate with their contracts: which of them its users can reach, and the promises of each in the words of its comments."""
+"""The functions of a crate with their contracts: which of them users can reach, and the promises of each in the words of its comments."""
 import re
 
 from read_definitions.sources import all_functions
@@ -12,6 +12,9 @@ class Promise:
     def __init__(self, words, clauses):
         self.words = words
         self.clauses = clauses
+
+    def names(self):
+        return list(dict.fromkeys(it.name for it in self.clauses))
 
 
 class Call:
@@ -41,8 +44,10 @@ class Call:
     def conditions(self):
         return [it for it in self.function.stated if it.word == "requires"]
 
-    def line_of(self, clause):
-        return self.function.source.text.count("\n", 0, clause.start) + 1
+    def place_of(self, clause):
+        """Returns where a clause of it stands, and its name."""
+        line = self.function.source.text.count("\n", 0, clause.start) + 1
+        return f"{self.function.source.path}:{line} {self.word}.{clause.name}"
 
     def comment(self):
         """Returns the paragraphs of the comment above the function, and the items of its lists."""
@@ -50,7 +55,7 @@ class Call:
         for it in reversed(self.function.source.whole[: self.function.at].split("\n")[:-1]):
             if not it.strip().startswith(("///", "#[")):
                 break
-            lines.insert(0, it.strip().removeprefix("///").strip() if "///" in it else "")
+            lines.insert(0, it.strip()[len("///") :].strip() if "///" in it else "")
         return [it.replace("\n", " ") for it in re.split(r"\n\n+|\n(?=- )", "\n".join(lines).strip()) if it]
 
 
@@ -84,10 +89,14 @@ def is_public(face, function, module, parts):
     owner, head = function.owner
     if not owner:
         return (module, function.name) in face.own
-    if re.search(r"\btrait \w+", head):
-        return face.has(owner)
+    is_of_trait = " for " in head or re.search(r"\btrait \w+", head)
+    return is_reached(face, owner, head, parts) and bool(is_of_trait or is_marked(function))
+
+
+def is_reached(face, owner, head, parts):
+    """Returns whether a user of the crate can reach a trait, or what an `impl` is of, by the head of either."""
     if " for " not in head:
-        return face.has(owner) and is_marked(function)
+        return face.has(owner)
     # (what another crate defines can be reached, and so can a reference)
     return all(face.has(it) or not face.defines(it) for it in parts[:2])
 

@@ -20,9 +20,7 @@ class Edit:
         self.file = file
         self.function = function
         self.name = name
-        # (what `must-fail/` has is tried by each run, and no record says which goal refused it)
-        self.is_of_each_run = path is None
-        self.path = path or ""
+        self.path = path
         self.goal = goal
         # the clause that it says to break, with its function; a condition of another function isn't one of this function's clauses
         self.broken = None
@@ -34,16 +32,13 @@ class Edit:
         return f"`{self.name}`{of}"
 
     def folder(self):
-        return f"crates/{self.crate}/{'must-fail' if self.is_of_each_run else 'wrong-bodies'}"
+        return f"crates/{self.crate}/wrong-bodies"
 
 
 def edits_of(crate):
-    """Returns a crate's wrong bodies: those that its record says to be refused, and those that each run tries."""
+    """Returns a crate's wrong bodies that its record says to be refused."""
     lines = record_of(crate).lines
-    found = [recorded(it, lines[it.file]) for it in files.edits_of(crate) if it.file in lines and not it.is_control]
-    folder = f"{ROOT}/crates/{crate}/must-fail"
-    names = sorted(os.listdir(folder)) if os.path.isdir(folder) else []
-    return found + [Edit(crate, it, None, "") for it in names if it.endswith(".edit")]
+    return [recorded(it, lines[it.file]) for it in files.edits_of(crate) if it.file in lines and not it.is_control]
 
 
 def recorded(edit, line):

@@ -1,15 +1,12 @@
 """What a user of a crate can reach: the names that its src/lib.rt exports, each with the file that it stands in."""
 import re
 
-from read_definitions.sources import rust_files
-from read_definitions.texts import crates
-
 ITEM = r"^pub (?:const )?(?:fn|struct|enum|trait|type|const|static) (\w+)"
 
 
-def public_crates():
+def public_crates(tree):
     """Returns the crates that have a face: all but tests, and what only tests use."""
-    return [it for it in crates() if not re.search("_tests$|^orc_test_", it)]
+    return [it for it in tree.crates if not re.search("_tests$|^orc_test_", it)]
 
 
 def module_of(path):
@@ -44,8 +41,10 @@ class Face:
 
     def __init__(self, tree, crate):
         self.crate = crate
-        self.sources = {module_of(path): tree.source(path) for path in rust_files(crate)}
+        self.sources = {module_of(path): tree.source(path) for path in tree.paths(crate)}
         self.own = set()
+        # what a `pub use` names and no source has
+        self.missing = []
         # for each other crate the names that are handed on from it, each with what it is called here
         self.handed_on = {}
         if () in self.sources:
@@ -72,9 +71,10 @@ class Face:
             self.handed_on.setdefault(path[0], []).append((path[-1], name))
             return
         found = self.find(self.start(module, path), path[-1])
-        if not found:
-            raise ValueError(f"{self.crate}: nothing stands for {'::'.join(path)}")
-        self.own.add(found)
+        if found:
+            self.own.add(found)
+        else:
+            self.missing.append("::".join(path))
 
     def start(self, module, path):
         """Returns the module that the way to a name leads to."""
@@ -101,4 +101,5 @@ class Face:
 
     def defines(self, name):
         """Returns whether a type or a trait of this name stands in the crate, exported or not."""
-        return any(re.search(rf"^(?:pub(?:\(crate\))? )?(?:struct|enum|trait|type) {name}\b", it.text, re.M) for it in self.sources.values())
+        declared = re.compile(rf"^(?:pub(?:\(crate\))? )?(?:struct|enum|trait|type) {name}\b", re.M)
+        return any(declared.search(it.text) for it in self.sources.values())
