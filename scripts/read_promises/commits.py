@@ -13,11 +13,16 @@ from .trees import OlderTree
 ANOTHER = ("GIT_DIR", "GIT_WORK_TREE", "GIT_INDEX_FILE", "GIT_PREFIX")
 
 
-def git(*words):
-    """Returns what git prints of this repository, and nothing if it fails."""
+def run(*words):
+    """Runs a command with no word of another repository in its environment, and returns how it ended and what it printed."""
     environment = {name: value for name, value in os.environ.items() if name not in ANOTHER}
+    return subprocess.run(words, env=environment, stdout=subprocess.PIPE, stderr=subprocess.PIPE, check=False)
+
+
+def git(*words):
+    """Returns what git prints of this repository, and nothing if it fails or isn't there."""
     try:
-        ran = subprocess.run(["git", "-C", ROOT, *words], env=environment, stdout=subprocess.PIPE, stderr=subprocess.DEVNULL, check=False)
+        ran = run("git", "-C", ROOT, *words)
     except FileNotFoundError:
         return None
     return ran.stdout if ran.returncode == 0 else None
@@ -35,15 +40,9 @@ def has_repository():
 
 
 def landed():
-    """Returns the newest ancestor of HEAD on origin/main that isn't HEAD, else HEAD's parent, and else nothing and why."""
-    if not os.path.exists(f"{ROOT}/.git"):
-        return None, "there is no git folder"
-    if not has_repository():
-        return None, "git can't read the git folder"
-    shared = git("merge-base", "HEAD", "refs/remotes/origin/main")
-    shared = shared.decode().strip() if shared else None
-    found = shared if shared and shared != commit("HEAD") else commit("HEAD^")
-    return found, None if found else "HEAD has no parent here, and no ancestor on origin/main"
+    """Returns the commit that scripts/landed prints, else nothing and why there is none."""
+    ran = run(f"{ROOT}/scripts/landed")
+    return (ran.stdout.decode().strip(), None) if ran.returncode == 0 else (None, ran.stderr.decode().strip())
 
 
 def file_of(rev, path):
