@@ -2,7 +2,6 @@
 from .edits import edits_of, place_edits
 
 WITHIN = "(refused within)"
-EACH_RUN = "(tried by each run)"
 
 
 def printed(edits):
@@ -18,7 +17,7 @@ def by_clause(edits):
     """Returns wrong bodies of a function by the clause that each breaks, or by what stands for a clause if none is known."""
     found = {}
     for it in edits:
-        found.setdefault(f".{it.clause}" if it.clause else f" {EACH_RUN if it.is_of_each_run else WITHIN}", []).append(it)
+        found.setdefault(f".{it.clause}" if it.clause else f" {WITHIN}", []).append(it)
     return found
 
 
