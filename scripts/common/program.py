@@ -1,0 +1,34 @@
+"""The program that the scripts try."""
+import os
+import pathlib
+import signal
+import subprocess
+
+ROOT = pathlib.Path(__file__).resolve().parent.parent.parent
+
+
+def found():
+    """Returns the path that scripts/program prints, or None. It may prove and build the program first; a signal ends that too."""
+    with subprocess.Popen([ROOT / "scripts/program"], stdout=subprocess.PIPE, text=True, start_new_session=True) as finding:
+        try:
+            path = finding.communicate()[0].strip()
+        except BaseException:
+            os.killpg(finding.pid, signal.SIGTERM)
+            raise
+    return path if finding.returncode == 0 else None
+
+
+def runs(path):
+    """Returns whether the program prints its help."""
+    try:
+        return subprocess.run([path, "--help"], stdout=subprocess.DEVNULL, stderr=subprocess.DEVNULL).returncode == 0
+    except OSError:
+        return False
+
+
+def program():
+    """Returns the program's path: what ORCM names, else what scripts/program finds. Ends the script if there is none, or if it doesn't run."""
+    path = os.environ.get("ORCM") or found()
+    if path is None or not runs(path):
+        raise SystemExit(f"{path or 'the program'} doesn't run")
+    return path
