@@ -2,13 +2,19 @@
 import contextlib
 import os
 import shutil
+import signal
 import subprocess
 import tempfile
 
-from common.room import end_on_signals, room
+from common.room import room
 from read_definitions.texts import ROOT
 
 from .crates import all_below, libraries
+
+
+def end(number, _frame):
+    """Ends the script as a signal asks for, so that what it made is removed on the way out."""
+    raise SystemExit(128 + number)
 
 
 @contextlib.contextmanager
@@ -19,7 +25,8 @@ def trial_room():
         with room("wrong-bodies-") as made:
             yield made
         return
-    end_on_signals()
+    for it in (signal.SIGTERM, signal.SIGINT):
+        signal.signal(it, end)
     made = tempfile.mkdtemp(prefix="wrong-bodies-", dir=f"{ROOT}/.git")
     try:
         yield made
