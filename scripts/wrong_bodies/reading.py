@@ -16,6 +16,10 @@ class Reading(Tree):
         self.rust_names = {}
         self.texts = {}
 
+    def paths(self, crate):
+        """Returns a crate's source files."""
+        return rust_files(crate)
+
     def rust_name(self, source, word):
         key = (source.path, word)
         if key not in self.rust_names:
