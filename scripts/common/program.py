@@ -1,21 +1,15 @@
 """The program that the scripts try."""
 import os
 import pathlib
-import signal
 import subprocess
 
 ROOT = pathlib.Path(__file__).resolve().parent.parent.parent
 
 
 def found():
-    """Returns the path that scripts/program prints, or None. It may prove and build the program first; a signal ends that too."""
-    with subprocess.Popen([ROOT / "scripts/program"], stdout=subprocess.PIPE, text=True, start_new_session=True) as finding:
-        try:
-            path = finding.communicate()[0].strip()
-        except BaseException:
-            os.killpg(finding.pid, signal.SIGTERM)
-            raise
-    return path if finding.returncode == 0 else None
+    """Returns the path that scripts/program prints, or None. It may prove and build the program first."""
+    done = subprocess.run([ROOT / "scripts/program"], stdout=subprocess.PIPE, text=True)
+    return done.stdout.strip() if done.returncode == 0 else None
 
 
 def runs(path):

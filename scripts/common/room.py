@@ -1,4 +1,5 @@
-"""Temporary folders, in memory if possible, that are removed when the script ends, also if a signal ends it."""
+"""Temporary folders, in memory if possible. They are removed when the script ends, also if a signal ends it, and then the processes that
+the script started end, too."""
 import contextlib
 import os
 import shutil
@@ -10,6 +11,8 @@ MEMORY, DISK = "/dev/shm", "/tmp"
 # bytes that have to be free in memory
 ENOUGH = 1 << 30
 SIGNALS = (signal.SIGHUP, signal.SIGINT, signal.SIGTERM)
+# seconds that processes have to end after a signal
+PATIENCE = 3
 
 
 def fits(folder):
@@ -25,13 +28,45 @@ def folder_of_rooms():
     return os.path.abspath(os.environ.get("TMPDIR") or (MEMORY if fits(MEMORY) else DISK))
 
 
+def parent_of(process):
+    """Returns the parent of a process, or nothing if the process has ended."""
+    try:
+        with open(f"/proc/{process}/stat", encoding="utf-8", errors="replace") as file:
+            state, parent = file.read().rpartition(")")[2].split()[:2]
+    except OSError:
+        return None
+    return None if state == "Z" else int(parent)
+
+
+def started():
+    """Returns the processes that this one started, and those that they started."""
+    parents = {int(it): parent_of(it) for it in os.listdir("/proc") if it.isdigit()}
+    found, more = set(), {os.getpid()}
+    while more:
+        more = {it for it, parent in parents.items() if parent in more}
+        found |= more
+    return found
+
+
+def end_started():
+    """Ends all processes that this one started, and waits a moment for them, since they may have folders of their own to remove."""
+    for process in started():
+        with contextlib.suppress(OSError):
+            os.kill(process, signal.SIGTERM)
+    until = time.monotonic() + PATIENCE
+    while started() and time.monotonic() < until:
+        time.sleep(0.05)
+
+
 def end(number, _frame):
-    """Ends the script with the status that a shell gives to a program that this signal ended."""
+    """Ends what the script started, and the script, with the status that a shell gives to a program that this signal ended."""
+    end_started()
     raise SystemExit(128 + number)
 
 
 def end_on_signals():
-    """Makes HUP, INT and TERM end the script by an exception, so that it removes what it made. A signal that is ignored stays so."""
+    """Makes HUP, INT and TERM end the script by an exception, after what it started, so that it removes what it made. A signal that is
+    ignored stays so."""
     for number in SIGNALS:
         if signal.getsignal(number) is not signal.SIG_IGN:
             signal.signal(number, end)
@@ -55,6 +90,10 @@ def room(prefix, folder=None):
     try:
         path = tempfile.mkdtemp(prefix=prefix, dir=folder or folder_of_rooms())
         yield path
+    except SystemExit:
+        # (a thread may have started something after the signal came)
+        end_started()
+        raise
     finally:
         handlers = {number: signal.signal(number, signal.SIG_IGN) for number in SIGNALS}
         if path is not None:
