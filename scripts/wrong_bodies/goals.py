@@ -1,6 +1,9 @@
 """What a check says: which functions it proved, which goals it left open, and which of these are clauses."""
 import difflib
+import os
 import re
+
+from .naming import head_words, modules_of
 
 # what the check says of a text that it can't read, or that doesn't compile: such an edit tries no contract
 UNREAD = re.compile(
@@ -24,14 +27,24 @@ ONLY_NAMES = re.compile(r"has no field|is not in scope|has no `|admitted")
 # or a type keeps true, which clauses rest on (a loop with a label has its name; in a ring of functions a goal begins with its function's)
 CLAUSE = re.compile(r"^(\w+-)?returns\b|-requires\b")
 KEPT = re.compile(r"^(\w+-)?(loop|invariant_of)-|^(\w+-)?\w+-(init|preserved)\b")
+# a line with which an `impl` or a trait begins
+HEAD = re.compile(r"(?:pub(?:\(crate\))? )?(?:unsafe )?(?:impl|trait)\b")
 # what a check ends with that reached the prover and didn't prove everything: of a crate, or of some of its functions
 NOT_PROVED = re.compile(r"^(logic=not-proved|only=\d)", re.M)
 
 
-def function_at(file, line):
-    """Returns the name of the function in whose text a line stands."""
-    with open(file, encoding="utf-8") as it:
-        return re.findall(r"\bfn (\w+)", "".join(it.readlines()[: int(line)]))[-1:]
+def functions_at(said, folder, file, line):
+    """Returns those of the functions that aren't proved in whose text a line may stand: of several with one name the one of that file and
+    of the type or the trait around the line, or if the check calls none so, each of them."""
+    with open(f"{folder}/{file}", encoding="utf-8") as it:
+        lines = it.readlines()[: int(line)]
+    name = re.findall(r"\bfn (\w+)", "".join(lines))[-1:]
+    around = [it for it in lines if HEAD.match(it) or it.startswith("}")][-1:]
+    owner = "".join(head_words(around[0])) if around and HEAD.match(around[0]) else ""
+    path = modules_of(f"{os.path.basename(folder)}/{file}")
+    named = [it for it in dict.fromkeys(UNPROVED.findall(said)) if it.split("::")[-1:] == name]
+    here = [it for it in named if it.split("::")[1 : 1 + len(path)] == path] or named
+    return [it for it in here if it.split("::")[1:] == [*path, *([owner] if owner else []), *name]] or here
 
 
 def is_proof_of(function, place, goal):
@@ -54,9 +67,8 @@ def goals_left(said, function, folder):
 
 def goals_asked(said, function, folder):
     """Returns the goals of a function's proof that have no answer, and that the search left open."""
-    name = function.split("::")[-1:]
     found = [it for left, goals in LEFT_OPEN.findall(said) if left == function for it in re.findall(r"`(\S+)`", goals)]
-    return found + [goal for file, line, goal in LEFT_AT.findall(said) if function_at(f"{folder}/{file}", line) == name]
+    return found + [goal for file, line, goal in LEFT_AT.findall(said) if function in functions_at(said, folder, file, line)]
 
 
 def akin(goal, answers):
