@@ -2,7 +2,9 @@
 #![tactic(auto)]
 
 use orc_cli_args::{Asked, Refusal, Request, read_words, request_of, words_of};
-use orc_cli_commands::{Ending, Outcome, SystemPlace, answer_to, flush_buffer, with_buffer};
+use orc_cli_commands::{
+    Ending, Outcome, SystemPlace, answer_to, flush_buffer, with_buffer, with_output,
+};
 use std::fs::File;
 use std::io;
 use std::process::ExitCode;
@@ -51,14 +53,12 @@ fn run<R: Env + Files<File = File> + AllocGlobal + Print + Eprint>(
     }
 }
 
-/// Answers one request over the files of the system, on the standard output. What was printed before a refusal goes out
-/// before it is told; where it doesn't, that is the refusal.
+/// Answers one request over the files of the system, on the standard output.
 fn answer<R: Files<File = File> + AllocGlobal + Print>(
     rt: &R,
     request: Request<'_, '_>,
 ) -> Result<Outcome, Ending> {
     let mut out = with_buffer(rt.alloc(), io::writer(rt))?;
     let answered = answer_to(rt.alloc(), &mut SystemPlace::new(rt), request, &mut out);
-    flush_buffer(out)?;
-    answered
+    with_output(answered, flush_buffer(out))
 }

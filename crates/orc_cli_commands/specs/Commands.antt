@@ -20,13 +20,13 @@ use Rattle.orc_tail.specs.declared.tail.Tail.{Tail}
 use Rattle.orc_cli_output.specs.Output.{AppendsPart, IsNotOpened, IsOutside, IsOutsideFile, IsWantOfMemory, write_failed}
 use Rattle.orc_cli_output.specs.declared.fault.CliFault.{CliFault}
 use Rattle.orc_cli_output.specs.declared.fault.CliFault.TheVariants.{File, Run, Json}
-use Rattle.orc_cli_ints.specs.Ints.{number_line, SpellsInts, StopsInts, IsNoHex, RefusesInts}
-use Rattle.orc_cli_rows.specs.Rows.{HaveJson}
+use Rattle.orc_cli_ints.specs.Ints.{number_line, SpellsInts, StopsInts, IsNoHex, RefusesInts, IsWantOfInts}
+use Rattle.orc_cli_rows.specs.Rows.{HaveJson, IsWantOfRows}
 use Rattle.orc_cli_rows.specs.Printed.{IsAsked, IsNotAsked, ArePrinted, Refuses}
-use Rattle.orc_cli_show.specs.Show.{show_lines}
-use Rattle.orc_cli_check.specs.Lines.{finding_lines, IsFoundOf, IsSourceOrMemory, IsNotChecked}
+use Rattle.orc_cli_show.specs.Show.{show_lines, IsWantOfShow}
+use Rattle.orc_cli_check.specs.Lines.{finding_lines, IsFoundOf, IsSourceOrMemory, IsNotChecked, IsWantOfCheck}
 use Rattle.orc_cli_write.specs.Lines.{AreRowsOf}
-use Rattle.orc_cli_write.specs.Writes.{IsOfWriter}
+use Rattle.orc_cli_write.specs.Writes.{IsOfWriter, IsWantOfWrite}
 use Rattle.orc_cli_write.specs.Reads.{RefusesLines}
 use Rattle.orc_merger.specs.Faults.{IsDeviceFault, IsOfBytes, IsOfMerge}
 use Rattle.orc_merger.specs.Outcomes.{IsAnswer, WroteMerge, WrotePart}
@@ -56,6 +56,7 @@ pub record AnswersInts (rle : Rle) (sign : Sign) (text : List ℕ) (old new : Op
   pub part : (values : List ℤ) → SpellsInts rle sign text values → result ≡ Err write_failed
       → AppendsPart old new (number_line values)
   pub nothing : IfErr result (λ e. e ≢ write_failed → Keeps old new)
+  pub layer : IfErr result (λ e. IsWantOfMemory e → IsWantOfInts e)
 
 -- `rows` of a file that was found, from the place on that a text names; `failed` is that sources of its kind can fail
 pub record AnswersRows (told : Option (List ℕ)) (from : Option (Bor (List ℕ))) (failed : Type 0)
@@ -69,6 +70,7 @@ pub record AnswersRows (told : Option (List ℕ)) (from : Option (Bor (List ℕ)
   pub unread : ((start : _) → IsAsked from start → ⊥)
       → MatchResult result (λ _. ⊥) (λ e. IsNotAsked from e × Keeps old new)
   pub source : IfErr result (λ e. e ≡ File file.SourceFailed → failed)
+  pub layer : IfErr result (λ e. IsWantOfMemory e → IsWantOfRows e)
 
 -- `show` of a file that was found
 pub record AnswersShow (told : Option (List ℕ)) (failed : Type 0) (old new : Option (List ℕ))
@@ -82,6 +84,7 @@ pub record AnswersShow (told : Option (List ℕ)) (failed : Type 0) (old new : O
   pub part : IfErr result (λ e. e ≡ write_failed → IfSome told (λ bytes. (tail : Tail) × IsTail bytes tail
       × AppendsPart old new (show_lines tail)))
   pub source : IfErr result (λ e. e ≡ File file.SourceFailed → failed)
+  pub layer : IfErr result (λ e. IsWantOfMemory e → IsWantOfShow e)
 
 -- `check` of a file that was found: that something is found is an outcome of its own
 pub record AnswersCheck (told : Option (List ℕ)) (failed : Type 0) (old new : Option (List ℕ))
@@ -95,6 +98,7 @@ pub record AnswersCheck (told : Option (List ℕ)) (failed : Type 0) (old new : 
   pub part : IfErr result (λ e. e ≡ write_failed → IfSome told (λ bytes. IsFoundOf bytes
       (λ found. AppendsPart old new (finding_lines found))))
   pub source : IfErr result (λ e. e ≡ File file.SourceFailed → failed)
+  pub layer : IfErr result (λ e. IsWantOfMemory e → IsWantOfCheck e)
 
 -- `write` of lines that were found, to a file that was made: it told `first`, and tells `made` in the end
 pub record AnswersWrite (schema : List ℕ) (options : Options) (lines : Option (List ℕ))
@@ -108,6 +112,7 @@ pub record AnswersWrite (schema : List ℕ) (options : Options) (lines : Option 
   pub refused : IfErr result (RefusesLines options schema lines first made)
   pub source : IfErr result (λ e. e ≡ File file.SourceFailed → lines_failed)
   pub output : IfErr result (λ e. e ≡ write_failed → output_failed)
+  pub layer : IfErr result (λ e. IsWantOfMemory e → IsWantOfWrite first made e)
 
 -- `merge` of inputs that were found, in their order, to a file that was made
 pub record AnswersMerge (inputs : List (Option (List ℕ))) (input_failed : ℕ → Type 0) (output_failed : Type 0)

@@ -1,5 +1,5 @@
 //! The answer to a request.
-ghost use Rattle.std.specs.Prelude.{◌≡◌, List, ℕ};
+ghost use Rattle.std.specs.Prelude.{◌≡◌, List, ℕ, OnOk};
 ghost use Rattle.orc_cli_commands.specs.Answers.{Answers, IsMadeBy};
 
 use crate::ending::Ending;
@@ -45,6 +45,9 @@ use std::io::Write;
 /// - `WriteFailed` of `write` and `merge` comes only where outputs of that place can fail, if the
 ///   place lacked a file at the output's path.
 ///
+/// - A file that `write` or `merge` has made is kept then, also when the power goes: the place has asked for that once,
+///   after the last byte, and `WriteFailed` is the refusal if it isn't done.
+///
 /// The devices of a request are made and let go while it is answered, so of them it is said only
 /// that such devices can fail at all.
 ///
@@ -61,7 +64,7 @@ pub fn answer_to<'a, P: Place<'a>, W: Write>(
     // knows at the path. If its file isn't found, the error is `SourceFailed` and the output's bytes are
     // unchanged if they are known. A request to make a file (`write`, `merge`) prints nothing, and is answered
     // as `write_lines` or `merge` promises of the bytes that the place knows at the inputs' paths and, at the
-    // end, of the file made. These promises leave out counts of failures and the layer that ran out of memory.
+    // end, of the file made. These promises leave out counts of failures.
     // A success is `Done`, except that of `check`: for a file that the place knows it is `Found` if the file
     // has findings, and `Done` if it has none. If an input isn't found, the place is unchanged and the error is
     // `SourceFailed` or `OutOfMemory`. If all inputs are found and no file is made, the place is unchanged and
@@ -74,6 +77,8 @@ pub fn answer_to<'a, P: Place<'a>, W: Write>(
     ensures answered { Answers (P.told place.old) (P.lacks place.old) (P.made place.new) (place.new ≡ place.old)
         P.Input.failures P.Lines.failures P.Output.failures (W.contents out.old) (W.contents out.new)
         result request.entry }
+    // If a request to make a file succeeds, then the place keeps this file, also when the power goes.
+    ensures durable { OnOk result ((path : List ℕ) → IsMadeBy request.entry path → P.durable place.new path) }
     // The place knows the same as before of the files that lay there first.
     ensures stays { P.told place.new ≡ P.told place.old }
     // If the request doesn't make a file at a path, then the place knows the same as before of the file made at

@@ -1,10 +1,11 @@
 //! Why what the command line asks for isn't done.
-ghost use Rattle.std.specs.Prelude.{◌≡◌};
+ghost use Rattle.std.specs.Prelude.{◌≡◌, IfOk, IfErr, Err};
 ghost use Rattle.orc_cli_args.specs.declared.command_line.Refusal.TheVariants.{Fault, NotUnderstood};
 ghost use Rattle.orc_cli_commands.specs.declared.ending.Ending.TheVariants.{Refused, NotMerged};
 ghost use Rattle.orc_cli_output.specs.declared.fault.CliFault.{CliFault};
 ghost use Rattle.orc_merger.specs.declared.fault.MergeFault.{MergeFault};
 
+use crate::outcome::Outcome;
 use orc_cli_args::Refusal;
 use orc_cli_output::CliFault;
 use orc_merger::MergeFault;
@@ -30,6 +31,23 @@ impl Ending {
             Ending::Refused(Refusal::Fault(_)) => 1,
             Ending::NotMerged(_) => 1,
         }
+    }
+}
+
+/// How a request ends that was answered like this, once what it printed was flushed. What was printed before a refusal
+/// goes out before the refusal is told. If that failed too, the failed output is the refusal.
+pub fn with_output<W: Drop>(
+    answered: Result<Outcome, Ending>,
+    flushed: Result<W, CliFault>,
+) -> Result<Outcome, Ending>
+    // If the flush succeeded, then the answer stands.
+    ensures answered { IfOk flushed (λ _. result ≡ answered) }
+    // If the flush failed, then its error is the refusal, whatever the answer is.
+    ensures output { IfErr flushed (λ fault. result ≡ Err (Refused (Fault fault))) }
+{
+    match flushed {
+        Ok(_) => answered,
+        Err(fault) => Err(Ending::Refused(Refusal::Fault(fault))),
     }
 }
 

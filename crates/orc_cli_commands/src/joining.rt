@@ -1,5 +1,5 @@
 //! The command that joins files into one.
-ghost use Rattle.std.specs.Prelude.{◌≡◌, ◌≢◌, List, ℕ, map, Some, IsSome, IsErr, IfOk, IfErr, ◌⊎◌};
+ghost use Rattle.std.specs.Prelude.{◌≡◌, ◌≢◌, List, ℕ, map, Some, IsSome, IsErr, IfOk, IfErr, OnOk, ◌⊎◌};
 ghost use Rattle.std.specs.List.{All, Any};
 ghost use Rattle.orc_tail.specs.declared.fault.FileFault.TheVariants as file;
 ghost use Rattle.orc_cli_output.specs.declared.fault.CliFault.TheVariants.{File};
@@ -60,6 +60,7 @@ pub(crate) fn join_files<'a, P: Place<'a>>(
 ) -> Result<Outcome, Ending>
     ensures answered { AnswersJoining (P.told place.old) (P.lacks place.old) (P.made place.new) (place.new ≡ place.old)
         P.Input.failures P.Output.failures result output.now (map (λ path. path.now) inputs.now) }
+    ensures durable { OnOk result (P.durable place.new output.now) }
     ensures stays { P.told place.new ≡ P.told place.old }
     ensures others { (path : List ℕ) → path ≢ output.now → P.made place.new path ≡ P.made place.old path }
 {

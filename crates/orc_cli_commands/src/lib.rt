@@ -5,6 +5,7 @@
 
 mod answering;
 mod buffer;
+mod durable;
 mod ending;
 mod joining;
 mod memory_place;
@@ -17,7 +18,8 @@ mod writing;
 
 pub use answering::answer_to;
 pub use buffer::{flush_buffer, with_buffer};
-pub use ending::Ending;
+pub use durable::{Durable, SystemFile};
+pub use ending::{Ending, with_output};
 pub use memory_place::MemoryPlace;
 pub use new_file::NewFile;
 pub use orc_cli_check::check_to;

@@ -43,7 +43,7 @@ impl<'a> MemoryPlace<'a> {
 }
 
 impl<'a> Place<'a> for MemoryPlace<'a> {
-    ghost use Rattle.std.specs.Prelude.{◌≡◌, None};
+    ghost use Rattle.std.specs.Prelude.{◌≡◌, None, IsSome};
     ghost use Rattle.orc_cli_commands.specs.Places.{held_at, made_at};
 
     type Input = SliceSource<'a>;
@@ -57,6 +57,8 @@ impl<'a> Place<'a> for MemoryPlace<'a> {
     ghost lacks = { λ place path. (held_at place.files.now path ≡ None) × (place.made ≡ None) };
 
     ghost made = { λ place path. made_at place.made path };
+
+    ghost durable = { λ place path. IsSome (made_at place.made path) };
 
     fn open(&self, path: &'a str) -> Result<SliceSource<'a>, CliFault> {
         match self.held_at(path) {

@@ -1,44 +1,82 @@
-//! A new file of the system as an output.
-ghost use Rattle.std.specs.Prelude.{◌≡◌, None, IfErr};
+//! A new file as an output.
+ghost use Rattle.std.specs.Prelude.{◌≡◌, ◌≤◌, ◌+◌, length, None, IfOk, IfErr};
+ghost use Rattle.std.specs.Io.KnownBytes.{Keeps, WriteAppends};
+ghost use Rattle.std.specs.Io.Buffered.{writer_contents};
+ghost use Rattle.orc_io.specs.Devices.{write_failures};
 ghost use Rattle.orc_cli_output.specs.Output.{write_failed};
 
 use crate::buffer::flush_buffer;
+use crate::durable::Durable;
 use orc_cli_output::CliFault;
-use orc_file::{Failures, Sink, SinkFault};
-use std::fs::File;
+use orc_file::{Failures, FileFault, Sink, SinkFault};
 use std::io::{BufWriter, Write};
 
-/// A new file behind a buffer. It tells nothing of its bytes, and fails only where the file fails or takes nothing.
+/// A new file behind a buffer. It tells nothing of its bytes as a sink, and fails only where the file fails or takes
+/// nothing.
 #[derive(Drop)]
-pub struct NewFile {
-    buffered: BufWriter<File>,
+pub struct NewFile<D: Durable + Drop> {
+    buffered: BufWriter<D>,
     failures: Failures,
 }
 
-impl NewFile {
+impl<D: Durable + Drop> NewFile<D> {
     /// A new file whose bytes go through this buffer.
-    pub(crate) fn new(buffered: BufWriter<File>) -> NewFile {
+    pub fn new(buffered: BufWriter<D>) -> NewFile<D>
+        // The returned file has the buffer `buffered` as it was given, and a count of failures of 0.
+        ensures buffered { result.buffered ≡ buffered }
+        ensures fresh { result.failures ≡ 0 }
+    {
         NewFile {
             buffered,
             failures: Failures::new(),
         }
     }
 
-    /// Writes what the buffer still has.
-    pub(crate) fn flush(self) -> Result<(), CliFault>
-        ensures { IfErr result (λ fault. fault ≡ write_failed) }
+    /// Writes what the buffer still has, and then asks the file to keep all of it, once. The file is handed back, or a
+    /// count of failures beside the refusal, which is `WriteFailed`. Neither the write nor the request is tried again.
+    pub fn finish(mut self) -> Result<D, (CliFault, Failures)>
+        // If the call succeeds, then the file keeps all that it has got, also when the power goes.
+        ensures durable { IfOk result D.durable }
+        // If the call succeeds, then the file has got all that the buffer was given, if its bytes are known.
+        ensures all { IfOk result (λ file. Keeps (writer_contents D.contents self.buffered) (D.contents file)) }
+        // An error is `WriteFailed`.
+        ensures fault { IfErr result (λ e. e.0 ≡ write_failed) }
+        // If the call fails, then the count of failures is one above that of the new file.
+        ensures failures { IfErr result (λ e. e.1 ≡ self.failures + 1) }
     {
-        flush_buffer(self.buffered)?;
-        Ok(())
+        let mut file = match flush_buffer(self.buffered) {
+            Ok(file) => file,
+            Err(fault) => {
+                self.failures.note();
+                return Err((fault, self.failures));
+            }
+        };
+        match file.sync() {
+            Ok(()) => Ok(file),
+            Err(_) => {
+                self.failures.note();
+                Err((CliFault::File(FileFault::WriteFailed), self.failures))
+            }
+        }
     }
 }
 
-impl Sink for NewFile {
+impl<D: Durable + Drop> Sink for NewFile<D> {
     ghost told = { λ _. None };
 
     ghost failures = { λ file. file.failures };
 
-    fn write(&mut self, bytes: &[u8]) -> Result<usize, SinkFault> {
+    fn write(&mut self, bytes: &[u8]) -> Result<usize, SinkFault>
+        // A write takes at most as many bytes as `bytes` has.
+        ensures bound { IfOk result (λ n. n ≤ length bytes.now) }
+        // If the bytes of the file and its buffer are known, then they grow by exactly the front of `bytes` that the
+        // write takes, and are unchanged if the write fails.
+        ensures file { WriteAppends (writer_contents D.contents self.old.buffered)
+            (writer_contents D.contents self.new.buffered) result bytes.now }
+        // A write that fails, or that takes nothing although `bytes` isn't empty, raises the count of failures by one.
+        // Any other write leaves the count as it is.
+        ensures failures { self.new.failures ≡ write_failures result (length bytes.now) self.old.failures }
+    {
         match self.buffered.write(bytes) {
             Ok(n) => {
                 if n == 0 && !bytes.is_empty() {

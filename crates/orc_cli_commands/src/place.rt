@@ -31,6 +31,10 @@ pub trait Place<'a> {
     /// The bytes of the file that was made at a path, where the place tells them.
     ghost made: { Self → List ℕ → Option (List ℕ) };
 
+    /// The place keeps the file that was made at a path, also when the power goes. Files in memory are kept as long as
+    /// their place is.
+    ghost durable: { Self → List ℕ → Type 0 };
+
     /// The file of a path, found now.
     fn open(&self, path: &'a str) -> Result<Self::Input, CliFault>
         // If the file is opened, then what is known of its bytes is what the place knows of the file at `path`.
@@ -71,11 +75,13 @@ pub trait Place<'a> {
         ensures stays { told self.new ≡ told self.old }
         ensures others { (other : List ℕ) → other ≢ path.now → made self.new other ≡ made self.old other };
 
-    /// Lets go a new file, once what was written to it is at its path.
+    /// Lets go a new file, once what was written to it is at its path and is kept.
     fn close(&mut self, path: &'a str, output: Self::Output) -> Result<(), CliFault>
         // If the call succeeds, then what the place knows of the file made at `path` is what was known of the
         // bytes of `output`.
         ensures made { OnOk result (made self.new path.now ≡ Self.Output.told output) }
+        // If the call succeeds, then the place keeps the file made at `path`, also when the power goes.
+        ensures durable { OnOk result (durable self.new path.now) }
         // An error is `WriteFailed`.
         ensures fault { IfErr result (λ fault. fault ≡ write_failed) }
         // If the place knows the file made at `path`, then the call succeeds.

@@ -1,9 +1,10 @@
 //! The files of the system as a place.
-ghost use Rattle.std.specs.Prelude.{◌≡◌, ◌⊎◌, None, IfOk, IfErr};
+ghost use Rattle.std.specs.Prelude.{◌≡◌, ◌⊎◌, None, IsSomeAnd, IfOk, IfErr};
 ghost use Rattle.orc_tail.specs.declared.fault.FileFault.TheVariants as file;
 ghost use Rattle.orc_cli_output.specs.declared.fault.CliFault.TheVariants.{File as FileFaulted};
 
 use crate::buffer::{BUFFER, with_buffer};
+use crate::durable::SystemFile;
 use crate::new_file::NewFile;
 use crate::place::Place;
 use orc_cli_args::{new_file, source_of};
@@ -15,16 +16,31 @@ use std::fs::File;
 use std::io::{self, BufRead, BufReader};
 use std::rt::Files;
 
-/// The files of the system. It tells nothing of them.
+/// The files of the system, and of those that were made the one that was closed last, behind its path. It tells nothing
+/// of their bytes.
 #[derive(Drop)]
 pub struct SystemPlace<'a, R: Files<File = File>> {
     files: &'a R,
+    closed: Option<(&'a str, SystemFile)>,
 }
 
 impl<'a, R: Files<File = File>> SystemPlace<'a, R> {
     /// The files that this runtime opens.
     pub fn new(files: &'a R) -> SystemPlace<'a, R> {
-        SystemPlace { files }
+        SystemPlace {
+            files,
+            closed: None,
+        }
+    }
+}
+
+/// What an error of opening or reading a file is told as.
+fn fault_of(error: &io::Error) -> FileFault
+    ensures { (result ≡ file.SourceFailed) ⊎ (result ≡ file.OutOfMemory) }
+{
+    match error.kind() {
+        io::ErrorKind::OutOfMemory => FileFault::OutOfMemory,
+        _ => FileFault::SourceFailed,
     }
 }
 
@@ -40,17 +56,14 @@ fn reader_of<R: Files<File = File>>(
 {
     let file = match File::open(files, path) {
         Ok(file) => file,
-        Err(error) if error.kind() == io::ErrorKind::OutOfMemory => {
-            return Err(CliFault::File(FileFault::OutOfMemory));
-        }
-        Err(_) => return Err(CliFault::File(FileFault::SourceFailed)),
+        Err(error) => return Err(CliFault::File(fault_of(&error))),
     };
     let mut reader = match BufReader::with_capacity(alloc, BUFFER, file) {
         Ok(reader) => reader,
         Err(_) => return Err(CliFault::File(FileFault::OutOfMemory)),
     };
-    if reader.fill_buf().is_err() {
-        return Err(CliFault::File(FileFault::SourceFailed));
+    if let Err(error) = reader.fill_buf() {
+        return Err(CliFault::File(fault_of(&error)));
     }
     Ok(reader)
 }
@@ -60,13 +73,16 @@ impl<'a, R: Files<File = File>> Place<'a> for SystemPlace<'a, R> {
 
     type Lines = StdLines<BufReader<File>>;
 
-    type Output = NewFile;
+    type Output = NewFile<SystemFile>;
 
     ghost told = { λ _ _. None };
 
     ghost lacks = { λ _ _. ⊥ };
 
     ghost made = { λ _ _. None };
+
+    ghost durable = { λ place path. IsSomeAnd place.closed
+        (λ closed. (closed.0.now ≡ path) × SystemFile.durable closed.1) };
 
     fn open(&self, path: &'a str) -> Result<FileSource<'a, R>, CliFault> {
         source_of(self.files, path)
@@ -76,12 +92,18 @@ impl<'a, R: Files<File = File>> Place<'a> for SystemPlace<'a, R> {
         Ok(StdLines::new(reader_of(self.files, alloc, path)?))
     }
 
-    fn make(&mut self, alloc: Global, path: &'a str) -> Result<NewFile, CliFault> {
-        let file = new_file(self.files, path)?;
+    fn make(&mut self, alloc: Global, path: &'a str) -> Result<NewFile<SystemFile>, CliFault> {
+        let file = SystemFile::new(new_file(self.files, path)?);
         Ok(NewFile::new(with_buffer(alloc, file)?))
     }
 
-    fn close(&mut self, _path: &'a str, output: NewFile) -> Result<(), CliFault> {
-        output.flush()
+    fn close(&mut self, path: &'a str, output: NewFile<SystemFile>) -> Result<(), CliFault> {
+        match output.finish() {
+            Ok(file) => {
+                self.closed = Some((path, file));
+                Ok(())
+            }
+            Err((fault, _)) => Err(fault),
+        }
     }
 }

@@ -1,5 +1,5 @@
 //! The command that writes a file of lines.
-ghost use Rattle.std.specs.Prelude.{◌≡◌, ◌≢◌, List, ℕ};
+ghost use Rattle.std.specs.Prelude.{◌≡◌, ◌≢◌, List, ℕ, OnOk};
 ghost use Rattle.orc_cli_commands.specs.Places.{CanFail};
 ghost use Rattle.orc_cli_commands.specs.Commands.{AnswersWrite};
 ghost use Rattle.orc_cli_commands.specs.Answers.{AnswersWriting};
@@ -41,6 +41,7 @@ pub(crate) fn write_file<'a, P: Place<'a>>(
 ) -> Result<Outcome, Ending>
     ensures answered { AnswersWriting (P.told place.old) (P.lacks place.old) (P.made place.new) (place.new ≡ place.old)
         P.Lines.failures P.Output.failures result schema.now options input.now output.now }
+    ensures durable { OnOk result (P.durable place.new output.now) }
     ensures stays { P.told place.new ≡ P.told place.old }
     ensures others { (path : List ℕ) → path ≢ output.now → P.made place.new path ≡ P.made place.old path }
 {

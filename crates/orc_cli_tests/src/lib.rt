@@ -10,6 +10,8 @@ mod devices;
 #[cfg(test)]
 mod files;
 #[cfg(test)]
+mod kept_files;
+#[cfg(test)]
 mod reading;
 #[cfg(test)]
 mod refused_writes;
