@@ -10,4 +10,5 @@ returns g c =
       refused = e.refused;
       source = λ failed. (c.args.lines.now, c.write_lines.new.lines, let more = e.source failed in omega (arith, more));
       output = λ failed. (c.args.out, c.in-Err.out, e.out.failed (ap Err failed));
+      layer = e.layer;
     }
