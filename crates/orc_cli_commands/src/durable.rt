@@ -1,5 +1,6 @@
 //! Outputs that are kept when the power goes.
 ghost use Rattle.std.specs.Prelude.{◌≡◌, OnOk, true, false};
+ghost use Rattle.std.specs.Io.{WritesAtMost};
 ghost use Rattle.std.specs.Io.KnownBytes.{Keeps};
 
 use std::fs::File;
@@ -43,6 +44,8 @@ impl SystemFile {
 
 impl Write for SystemFile {
     fn write(&mut self, bytes: &[u8]) -> io::Result<usize>
+        // A write takes at most as many bytes as `bytes` has.
+        ensures bound { WritesAtMost result bytes.now }
         // After a write the file isn't taken for one whose bytes are on the device.
         ensures unsynced { self.new.synced ≡ false }
     {

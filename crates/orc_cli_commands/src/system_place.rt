@@ -1,5 +1,5 @@
 //! The files of the system as a place.
-ghost use Rattle.std.specs.Prelude.{◌≡◌, ◌⊎◌, None, IsSomeAnd, IfOk, IfErr};
+ghost use Rattle.std.specs.Prelude.{◌≡◌, ◌⊎◌, None, IsSomeAnd, IfOk, IfErr, true};
 ghost use Rattle.orc_tail.specs.declared.fault.FileFault.TheVariants as file;
 ghost use Rattle.orc_cli_output.specs.declared.fault.CliFault.TheVariants.{File as FileFaulted};
 
@@ -82,7 +82,7 @@ impl<'a, R: Files<File = File>> Place<'a> for SystemPlace<'a, R> {
     ghost made = { λ _ _. None };
 
     ghost durable = { λ place path. IsSomeAnd place.closed
-        (λ closed. (closed.0.now ≡ path) × SystemFile.durable closed.1) };
+        (λ closed. (closed.0.now ≡ path) × (closed.1.synced ≡ true)) };
 
     fn open(&self, path: &'a str) -> Result<FileSource<'a, R>, CliFault> {
         source_of(self.files, path)
