@@ -7,7 +7,7 @@ use Rattle.clap.specs.Simple.{App, Shape, new_rule, new_shape, matches_of, subco
 use Rattle.clap.specs.Faults.{fault_of}
 use Rattle.clap.specs.Kinds.{IsAmong}
 use Rattle.clap.specs.Matches.{found_of}
-use Rattle.clap.specs.declared.builder.action.ArgAction.TheVariants.{Set, Append}
+use Rattle.clap.specs.declared.builder.action.ArgAction.TheVariants.{Set, SetTrue, Append}
 use Rattle.clap.specs.declared.builder.value_parser.ValueParser.TheVariants.{Names, Unsigned}
 use Rattle.clap.specs.declared.error.kind.ErrorKind.{ErrorKind}
 use Rattle.clap.specs.declared.error.kind.ErrorKind.TheVariants.{DisplayHelp, DisplayVersion}
@@ -45,6 +45,10 @@ needed name = record (new_rule name) { action = Some Set; value_names = 1; requi
 abbrev pub optional : Text → Rule
 optional name = record (new_rule name) { action = Some Set; value_names = 1 }
 
+-- one that may be left out, without a value
+abbrev pub switch : Text → Rule
+switch name = record (new_rule name) { action = Some SetTrue }
+
 -- it goes by its name, behind `--`
 abbrev pub named : Rule → Rule
 named rule = record rule { long = Some rule.id }
@@ -67,6 +71,10 @@ all_of name = record (new_rule name) {
 
 -- ---- commands
 
+-- whether to show how far a command is
+abbrev pub progress_rule : Rule
+progress_rule = named (switch (codes "progress"))
+
 -- a command: its name, and its arguments in order
 abbrev pub command : Text → List Rule → Shape
 command name rules = record (new_shape name) { rules = rules }
@@ -78,30 +86,32 @@ ints_line versions signs = command (codes "ints")
     ∷ one_of signs (named (needed (codes "sign")))
     ∷ needed (codes "hex") ∷ [])
 
--- `rows`: where to start, if it says so, and a file
+-- `rows`: where to start, if it says so, the flag for progress, and a file
 abbrev pub rows_line : Shape
-rows_line = command (codes "rows") (named (optional (codes "from")) ∷ needed (codes "file") ∷ [])
+rows_line = command (codes "rows")
+    (named (optional (codes "from")) ∷ progress_rule ∷ needed (codes "file") ∷ [])
 
 -- `show`: a file
 abbrev pub show_line : Shape
 show_line = command (codes "show") (needed (codes "file") ∷ [])
 
--- `check`: a file
+-- `check`: the flag for progress, and a file
 abbrev pub check_line : Shape
-check_line = command (codes "check") (needed (codes "file") ∷ [])
+check_line = command (codes "check") (progress_rule ∷ needed (codes "file") ∷ [])
 
--- `write`: a schema, the version, the stride, the rows of a stripe, the lines' file and the new one
+-- `write`: a schema, the version, the stride, the rows of a stripe, the flag for progress, the lines' file and the new one
 abbrev pub write_line : Words → Shape
 write_line versions = command (codes "write")
     (named (needed (codes "schema"))
     ∷ one_of versions (named (needed (codes "rle")))
     ∷ between 0 4294967295 (named (needed (codes "stride")))
     ∷ between 1 2147483647 (named (needed (codes "stripe-rows")))
+    ∷ progress_rule
     ∷ needed (codes "in") ∷ needed (codes "out") ∷ [])
 
--- `merge`: the new file and the inputs
+-- `merge`: the flag for progress, the new file and the inputs
 abbrev pub merge_line : Shape
-merge_line = command (codes "merge") (needed (codes "out") ∷ all_of (codes "in") ∷ [])
+merge_line = command (codes "merge") (progress_rule ∷ needed (codes "out") ∷ all_of (codes "in") ∷ [])
 
 -- the words that options of `ints` and of `write` take
 pub record Choices : Type 0 where

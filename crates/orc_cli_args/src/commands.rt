@@ -7,10 +7,12 @@ ghost use Rattle.clap.specs.declared.builder.command.Command.{Command};
 ghost use Rattle.clap.specs.declared.builder.command.Command.TheViews.{out-Command};
 ghost use Rattle.clap.specs.declared.error.kind.ErrorKind.TheVariants as kind;
 ghost use Rattle.orc_cli_args.specs.Commands as spec;
-ghost use Rattle.orc_cli_args.specs.Commands.{Choices, Words, needed, optional, named, one_of, between, all_of};
+ghost use Rattle.orc_cli_args.specs.Commands.{Choices, Words, needed, optional, named, one_of, between, all_of, progress_rule};
 ghost use Rattle.orc_cli_args.specs.Commands.{HasVersions, HasSigns};
 
-use crate::help::{CHECK_HELP, MERGE_HELP, ROWS_HELP, STATUSES, WRITE_HELP};
+use crate::help::{
+    CHECK_HELP, INTS_HELP, MERGE_HELP, PROGRAM_HELP, PROGRESS, ROWS_HELP, SHOW_HELP, WRITE_HELP,
+};
 use crate::request::{SIGNS, VERSIONS};
 use clap::builder::ValueParser;
 use clap::{Arg, ArgAction, Command, Error};
@@ -21,7 +23,7 @@ use std::alloc::Global;
 const VERSION: &str = "0.1.0";
 
 /// After how many rows a group of the row index may begin at most.
-const MOST_STRIDE: u64 = 4_294_967_295;
+pub(crate) const MOST_STRIDE: u64 = 4_294_967_295;
 
 /// The program, one of whose commands has to be named.
 pub(crate) fn orcm<'a>(alloc: Global) -> Result<Command<'a>, Error>
@@ -31,8 +33,8 @@ pub(crate) fn orcm<'a>(alloc: Global) -> Result<Command<'a>, Error>
     let program = Command::new(alloc, "orcm")
         .bin_name("orcm")?
         .version(VERSION)
-        .about("Reads, writes, checks and joins Apache ORC files without compression")
-        .after_help(STATUSES)
+        .about("Reads, writes, checks and joins uncompressed Apache ORC files")
+        .after_help(PROGRAM_HELP)
         .subcommand_required(true);
     let program = with_command(program, ints_command(alloc))?;
     let program = with_command(program, rows_command(alloc))?;
@@ -115,7 +117,7 @@ fn version_option<'a>(alloc: Global) -> Arg<'a>
         alloc,
         "rle",
         "VERSION",
-        "The version of the integer run lengths",
+        "Version of the integer run lengths",
         VERSIONS.as_slice(),
     )
 }
@@ -130,7 +132,7 @@ fn sign_option<'a>(alloc: Global) -> Arg<'a>
         alloc,
         "sign",
         "SIGN",
-        "Whether the numbers are signed (s) or unsigned (u)",
+        "Signed (s) or unsigned (u) numbers",
         SIGNS.as_slice(),
     )
 }
@@ -143,16 +145,28 @@ fn ints_command<'a>(alloc: Global) -> Result<Command<'a>, Error>
 {
     Ok(
         Command::new(alloc, "ints")
-            .about("Prints the numbers of an integer stream")
+            .about("Decodes an integer stream given as hexadecimal digits")
+            .after_help(INTS_HELP)
             .arg(version_option(alloc))?
             .arg(sign_option(alloc))?
             .arg(needed_argument(
                 alloc,
                 "hex",
                 "HEX",
-                "The bytes of the stream as hexadecimal digits, in either case",
+                "Bytes of the stream as hexadecimal digits, in upper or lower case",
             ))?,
     )
+}
+
+/// Whether to show how far the command is.
+fn progress_flag<'a>(alloc: Global) -> Arg<'a>
+    ensures rule { rule_of result ≡ progress_rule }
+    ensures local { result.global ≡ false }
+{
+    Arg::new(alloc, "progress")
+        .long("progress")
+        .action(ArgAction::SetTrue)
+        .help(PROGRESS)
 }
 
 /// The ORC file that a command reads.
@@ -160,7 +174,7 @@ fn file_word<'a>(alloc: Global) -> Arg<'a>
     ensures rule { rule_of result ≡ needed (codes "file") }
     ensures local { result.global ≡ false }
 {
-    needed_argument(alloc, "file", "FILE", "The ORC file")
+    needed_argument(alloc, "file", "FILE", "Input file (ORC)")
 }
 
 /// Where to start to read.
@@ -172,7 +186,7 @@ fn from_option<'a>(alloc: Global) -> Arg<'a>
         .long("from")
         .action(ArgAction::Set)
         .value_name("STRIPE:GROUP")
-        .help("Where to start: a stripe and a group of its row index, both counted from 0")
+        .help("Stripe and row group to start at, both counted from 0")
 }
 
 fn rows_command<'a>(alloc: Global) -> Result<Command<'a>, Error>
@@ -182,9 +196,10 @@ fn rows_command<'a>(alloc: Global) -> Result<Command<'a>, Error>
 {
     Ok(
         Command::new(alloc, "rows")
-            .about("Prints the rows of a file, a row a line as compact JSON")
+            .about("Prints the rows as compact JSON, one per line")
             .after_help(ROWS_HELP)
             .arg(from_option(alloc))?
+            .arg(progress_flag(alloc))?
             .arg(file_word(alloc))?,
     )
 }
@@ -196,7 +211,8 @@ fn show_command<'a>(alloc: Global) -> Result<Command<'a>, Error>
 {
     Ok(
         Command::new(alloc, "show")
-            .about("Prints what a file says of itself: schema, stripes and statistics")
+            .about("Prints the schema, stripes and statistics of a file")
+            .after_help(SHOW_HELP)
             .arg(file_word(alloc))?,
     )
 }
@@ -208,8 +224,9 @@ fn check_command<'a>(alloc: Global) -> Result<Command<'a>, Error>
 {
     Ok(
         Command::new(alloc, "check")
-            .about("Prints what a file says of itself and is not so: statistics and row indexes")
+            .about("Checks stored statistics and row indexes against the rows")
             .after_help(CHECK_HELP)
+            .arg(progress_flag(alloc))?
             .arg(file_word(alloc))?,
     )
 }
@@ -219,7 +236,13 @@ fn schema_option<'a>(alloc: Global) -> Arg<'a>
     ensures rule { rule_of result ≡ named (needed (codes "schema")) }
     ensures local { result.global ≡ false }
 {
-    needed_argument(alloc, "schema", "TEXT", "The schema, as struct<n:bigint>").long("schema")
+    needed_argument(
+        alloc,
+        "schema",
+        "TEXT",
+        "Schema of the rows, such as 'struct<n:bigint>'",
+    )
+    .long("schema")
 }
 
 /// After how many rows the row index has an entry.
@@ -230,7 +253,7 @@ fn stride_option<'a>(alloc: Global) -> Arg<'a>
     number_option(
         alloc,
         "stride",
-        "After how many rows the row index has an entry; 0 for no index",
+        "Rows per row-index entry, 0 to 4294967295; 0 writes no index",
         0,
         MOST_STRIDE,
     )
@@ -244,7 +267,7 @@ fn stripe_rows_option<'a>(alloc: Global) -> Arg<'a>
     number_option(
         alloc,
         "stripe-rows",
-        "After how many rows a stripe ends, 1 to 2147483647",
+        "Rows per stripe, 1 to 2147483647",
         1,
         MOST_STRIPE_ROWS,
     )
@@ -258,14 +281,15 @@ fn write_command<'a>(alloc: Global) -> Result<Command<'a>, Error>
 {
     Ok(
         Command::new(alloc, "write")
-            .about("Writes a file of rows, which are given a row a line as JSON")
+            .about("Writes an ORC file from JSON, one row per line")
             .after_help(WRITE_HELP)
             .arg(schema_option(alloc))?
             .arg(version_option(alloc))?
             .arg(stride_option(alloc))?
             .arg(stripe_rows_option(alloc))?
-            .arg(needed_argument(alloc, "in", "IN", "The file of the lines"))?
-            .arg(needed_argument(alloc, "out", "OUT", "The file that is made"))?,
+            .arg(progress_flag(alloc))?
+            .arg(needed_argument(alloc, "in", "IN", "Input file (JSON lines)"))?
+            .arg(needed_argument(alloc, "out", "OUT", "Output file, must not exist"))?,
     )
 }
 
@@ -278,7 +302,7 @@ fn inputs_word<'a>(alloc: Global) -> Arg<'a>
         .action(ArgAction::Append)
         .num_args(0..)
         .value_name("IN")
-        .help("The files that are joined, in this order")
+        .help("Input files (ORC), joined in this order")
 }
 
 fn merge_command<'a>(alloc: Global) -> Result<Command<'a>, Error>
@@ -288,9 +312,10 @@ fn merge_command<'a>(alloc: Global) -> Result<Command<'a>, Error>
 {
     Ok(
         Command::new(alloc, "merge")
-            .about("Joins files into a new one, stripe by stripe, with statistics of all rows")
+            .about("Joins files into one by copying stripes and merging statistics")
             .after_help(MERGE_HELP)
-            .arg(needed_argument(alloc, "out", "OUT", "The file that is made"))?
+            .arg(progress_flag(alloc))?
+            .arg(needed_argument(alloc, "out", "OUT", "Output file, must not exist"))?
             .arg(inputs_word(alloc))?,
     )
 }

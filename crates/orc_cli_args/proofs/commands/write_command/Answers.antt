@@ -14,9 +14,10 @@ returns-clause-shape c =
     let two = c.in_ok-arg-2.ensures.shape c.version_option.ensures.local ∙ ap₂ with_rule one versions.2 in
     let three = c.in_ok-arg-3.ensures.shape c.stride_option.ensures.local ∙ ap₂ with_rule two c.stride_option.ensures.rule in
     let four = c.in_ok-arg-4.ensures.shape c.stripe_rows_option.ensures.local ∙ ap₂ with_rule three c.stripe_rows_option.ensures.rule in
-    let five = c.in_ok-arg-5.ensures.shape c.needed_argument.ensures.local ∙ ap₂ with_rule four c.needed_argument.ensures.rule in
-    let six = c.in_ok-arg-6.ensures.shape c.needed_argument-2.ensures.local ∙ ap₂ with_rule five c.needed_argument-2.ensures.rule in
-    (versions.0, versions.1, ap (λ (a : App). a.top) six)
+    let five = c.in_ok-arg-5.ensures.shape c.progress_flag.ensures.local ∙ ap₂ with_rule four c.progress_flag.ensures.rule in
+    let six = c.in_ok-arg-6.ensures.shape c.needed_argument.ensures.local ∙ ap₂ with_rule five c.needed_argument.ensures.rule in
+    let seven = c.in_ok-arg-7.ensures.shape c.needed_argument-2.ensures.local ∙ ap₂ with_rule six c.needed_argument-2.ensures.rule in
+    (versions.0, versions.1, ap (λ (a : App). a.top) seven)
 
 -- none of the two is
 both : (a b : Bool) → a ≡ false → b ≡ false → (a || b) ≡ false
@@ -33,5 +34,6 @@ returns-clause-local c =
     let two = c.in_ok-arg-2.ensures.globals ∙ both _ _ one c.version_option.ensures.local in
     let three = c.in_ok-arg-3.ensures.globals ∙ both _ _ two c.stride_option.ensures.local in
     let four = c.in_ok-arg-4.ensures.globals ∙ both _ _ three c.stripe_rows_option.ensures.local in
-    let five = c.in_ok-arg-5.ensures.globals ∙ both _ _ four c.needed_argument.ensures.local in
-    c.in_ok-arg-6.ensures.globals ∙ both _ _ five c.needed_argument-2.ensures.local
+    let five = c.in_ok-arg-5.ensures.globals ∙ both _ _ four c.progress_flag.ensures.local in
+    let six = c.in_ok-arg-6.ensures.globals ∙ both _ _ five c.needed_argument.ensures.local in
+    c.in_ok-arg-7.ensures.globals ∙ both _ _ six c.needed_argument-2.ensures.local
