@@ -1,15 +1,20 @@
 -- What the words behind a command's name ask for.
-use Rattle.std.proofs.Common.{◌≡◌, ℕ, List, Option, Some, None, IsSome, IfSome, IfNone, option_map, codes, get_or, sym, ap, ◌∙◌, arith, true, false, inr}
-use Rattle.clap.specs.Matches.{first_value, subcommand_name_of}
+use Rattle.std.proofs.Common.{◌≡◌, ℕ, List, Option, Some, None, IsSome, IfSome, IfNone, find, option_map, option_and_then, codes, get_or, sym, ap, subst, ◌∙◌, arith, true, false, inr, refl}
+use Rattle.std.specs.Str.{bytes_eq}
+use Rattle.clap.specs.Facts.{Entry}
+use Rattle.clap.specs.Matches.{first_value, matched_of, subcommand_name_of}
 use Rattle.clap.specs.Simple.{subcommand_rows_of}
-use Rattle.clap.specs.Walk.{Text, Row, rows_of}
+use Rattle.clap.specs.Walk.{Text, Row, first_of, row_of, rows_of}
 use Rattle.clap.specs.declared.parser.matches.ArgMatches.{ArgMatches}
 use Rattle.clap.specs.declared.parser.matches.Found.{Found}
+use Rattle.clap.specs.declared.parser.matches.MatchedArg.{MatchedArg}
+use Rattle.clap.specs.declared.parser.matches.ValueSource.{ValueSource}
+use Rattle.clap.proofs.WalkLemmas.{find_row, first_value-rows}
 use Rattle.orc_rle.specs.declared.sign.Rle.{Rle}
 use Rattle.orc_rle.specs.declared.sign.Sign.{Sign}
 use Rattle.orc_stripe_writer.specs.declared.options.Options.{Options}
 use Rattle.orc_cli_args.specs.declared.request.Request.{Request}
-use Rattle.orc_cli_args.specs.Requests.{Asks, HasInts, HasWrite, IsUnderstood, ints, rows, show, check, write, merge, IsNotUnderstood}
+use Rattle.orc_cli_args.specs.Requests.{Asks, HasInts, HasWrite, IsUnderstood, ints, rows, show, check, write, merge, IsNotUnderstood, command_rows, origin_of, IsNoNumber, IsUnread}
 
 -- Who knows the words that were found names them.
 pub asks_some : (P : Found → Type 0) (found : Found) (asked : Option Request) → P found → IfSome asked (Asks found) → IfSome asked (λ request. (x : Found) × P x × Asks x request)
@@ -89,3 +94,35 @@ pub none_understood : (m : ArgMatches) (name : List ℕ) (found : Found) (asked 
     → option_map (λ (p : Text × List Row). p.1) (subcommand_rows_of m) ≡ Some (rows_of found) → (IsUnderstood name found → IsSome asked) → IfNone asked (IsNotUnderstood m)
 none_understood m name found None named here so = inr (name, found, named, here, (λ understood. let e : false ≡ true = so understood in cc))
 none_understood m name found (Some request) named here so = tt
+
+-- ---- what was found of one option or flag is what the command's words have of it
+
+-- where a value comes from, by the entries and by the rows
+pub source-rows : (found : Found) (name : Text) → option_and_then (λ (a : MatchedArg). a.source) (matched_of found name) ≡ origin_of name (rows_of found)
+source-rows found name = go (find (λ (e : Entry). bytes_eq e.0.now name) found.entries.items)
+    ∙ ap (option_and_then (λ (row : Row). row.source)) (sym (find_row found.entries.items name))
+  where
+    go : (o : Option Entry) → option_and_then (λ (a : MatchedArg). a.source) (option_map (λ (e : Entry). e.1) o) ≡ option_and_then (λ (row : Row). row.source) (option_map row_of o)
+    go None = refl
+    go (Some e) = refl
+
+module _ (m : ArgMatches) (found : Found) (name : Text) (here : Some (rows_of found) ≡ command_rows m) where
+  pub origin_there : origin_of name (rows_of found) ≡ option_and_then (origin_of name) (command_rows m)
+  origin_there = ap (option_and_then (origin_of name)) here
+
+  value_there : first_value found name ≡ option_and_then (first_of name) (command_rows m)
+  value_there = first_value-rows found name ∙ ap (option_and_then (first_of name)) here
+
+  pub unread_there : IsNoNumber (first_value found name) → IsUnread m name
+  unread_there unread = subst IsNoNumber value_there unread
+
+  pub unread_found : IsUnread m name → IsNoNumber (first_value found name)
+  unread_found unread = subst IsNoNumber (sym value_there) unread
+
+-- Where no command is named there is nothing of either.
+module _ (m : ArgMatches) (name : Text) (none : None ≡ command_rows m) where
+  pub nothing_unread : IsUnread m name → ⊥
+  nothing_unread unread = let P : Option (List Row) → Type 0 = λ rows. IsNoNumber (option_and_then (first_of name) rows) in subst P (sym none) unread
+
+  pub nothing_given : (of : ValueSource) → option_and_then (origin_of name) (command_rows m) ≡ Some of → ⊥
+  nothing_given of given = let e : None ≡ Some of = ap (option_and_then (origin_of name)) none ∙ given in cc

@@ -1,10 +1,13 @@
 -- What the words of a command line ask for, by the names of their options.
-use Rattle.std.specs.Prelude.{◌≡◌, ◌⊎◌, ℕ, List, [], Some, None, map, option_map, unwrap_or, codes}
+use Rattle.std.specs.Prelude.{◌≡◌, ◌⊎◌, ℕ, List, [], Option, Some, None, IsSomeAnd, map, find, option_map, option_and_then, unwrap_or, codes}
+use Rattle.std.specs.Str.{bytes_eq}
 use Rattle.clap.specs.Matches.{first_value, matched_of, raw_values, subcommand_name_of}
 use Rattle.clap.specs.Simple.{subcommand_rows_of}
-use Rattle.clap.specs.Walk.{rows_of}
+use Rattle.clap.specs.Walk.{Row, first_of, rows_of}
 use Rattle.clap.specs.declared.parser.matches.ArgMatches.{ArgMatches}
 use Rattle.clap.specs.declared.parser.matches.Found.{Found}
+use Rattle.clap.specs.declared.parser.matches.ValueSource.{ValueSource}
+use Rattle.clap.specs.declared.parser.matches.ValueSource.TheVariants.{CommandLine}
 use Rattle.orc_rle.specs.declared.sign.Rle.{Rle}
 use Rattle.orc_rle.specs.declared.sign.Rle.TheVariants.{One, Two}
 use Rattle.orc_rle.specs.declared.sign.Sign.{Sign}
@@ -94,3 +97,29 @@ IsNotUnderstood m =
     (subcommand_name_of m ≡ None)
     ⊎ ((name : List ℕ) × (found : Found) × (subcommand_name_of m ≡ Some name)
     × (option_map (λ p. p.1) (subcommand_rows_of m) ≡ Some (rows_of found)) × (IsUnderstood name found → ⊥))
+
+-- ---- what the words after a command's name have, whichever command it is
+
+-- what was found in them, nothing if no command is named
+abbrev pub command_rows : ArgMatches → Option (List Row)
+command_rows m = option_map (λ p. p.1) (subcommand_rows_of m)
+
+-- where the value of an option or a flag comes from: the words, or its default
+abbrev pub origin_of : List ℕ → List Row → Option ValueSource
+origin_of name rows = option_and_then (λ row. row.source) (find (λ row. bytes_eq row.id name) rows)
+
+-- `--progress` is among them
+abbrev pub HasProgress : ArgMatches → Type 0
+HasProgress m = option_and_then (origin_of (codes "progress")) (command_rows m) ≡ Some CommandLine
+
+-- the option takes a number
+abbrev pub TakesNumber : List ℕ → Type 0
+TakesNumber option = (option ≡ codes "stride") ⊎ (option ≡ codes "stripe-rows")
+
+-- there is a value, and it is no number in decimal digits alone
+abbrev pub IsNoNumber : Option (List ℕ) → Type 0
+IsNoNumber value = IsSomeAnd value (λ digits. (n : ℕ) → IsNumber digits n → ⊥)
+
+-- the option has a value among them, and it is no number
+abbrev pub IsUnread : ArgMatches → List ℕ → Type 0
+IsUnread m option = IsNoNumber (option_and_then (first_of option) (command_rows m))

@@ -9,4 +9,4 @@ mod request;
 
 pub use command_line::{Asked, Refusal, matches_of, read_words, words_of};
 pub use files::{new_file, source_of};
-pub use request::{Request, SIGNS, VERSIONS, request_of};
+pub use request::{Request, SIGNS, VERSIONS, request_of, unread_number, wants_progress};

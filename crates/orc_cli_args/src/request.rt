@@ -1,15 +1,18 @@
 //! What a command line can ask for, and what the words of its options stand for.
-ghost use Rattle.std.specs.Prelude.{◌≡◌, ◌<◌, ◌^◌, ℕ, List, Some, IsSome, IfSome, IfNone, option_map, codes};
+ghost use Rattle.std.specs.Prelude.{◌≡◌, ◌<◌, ◌^◌, ◌↔◌, ℕ, List, Some, IsSome, IsTrue, IfSome, IfNone, option_map, codes};
 ghost use Rattle.clap.specs.Matches.{found_of, first_value, subcommand_name_of};
 ghost use Rattle.clap.specs.Walk.{rows_of as found_rows};
 ghost use Rattle.clap.specs.Simple.{subcommand_rows_of};
 ghost use Rattle.clap.specs.declared.parser.matches.Found.{Found};
+ghost use Rattle.clap.specs.declared.parser.matches.ValueSource.TheVariants.{CommandLine};
 ghost use Rattle.orc_rle.specs.declared.sign.Rle.{Rle};
 ghost use Rattle.orc_rle.specs.declared.sign.Sign.{Sign};
 ghost use Rattle.orc_stripe_writer.specs.declared.options.Options.{Options};
 ghost use Rattle.orc_cli_args.specs.Requests.{Asks, version_word, sign_word, command_word, HasInts, HasWrite, IsNotUnderstood};
+ghost use Rattle.orc_cli_args.specs.Requests.{origin_of, HasProgress, TakesNumber, IsNoNumber, IsUnread};
 
 use clap::ArgMatches;
+use clap::parser::ValueSource;
 use orc_cli_output::number_of;
 use orc_rle::{Rle, Sign};
 use orc_stripe::Options;
@@ -178,5 +181,55 @@ pub fn request_of<'m, 'a>(matches: &'m ArgMatches<'a>) -> Option<Request<'m, 'a>
         "write" => write_of(found),
         "merge" => merge_of(found),
         _ => None,
+    }
+}
+
+/// Whether the option has a value, and it is no number in decimal digits alone.
+fn is_unread(found: &ArgMatches<'_>, option: &str) -> bool
+    ensures { IsTrue result ↔ IsNoNumber (first_value (found_of found.now) option.now) }
+{
+    match found.get_str(option) {
+        Some(word) => number_of(word).is_none(),
+        None => false,
+    }
+}
+
+/// Returns the option of `write` whose value isn't a number in decimal digits alone: `stride` if its value isn't one,
+/// else `stripe-rows` if its value isn't one. `request_of` answers nothing then.
+pub fn unread_number(matches: &ArgMatches<'_>) -> Option<&'static str>
+    // If an option is returned, it takes a number, and its value isn't one: decimal digits alone,
+    // zeros in front allowed, whose number is below 2^32.
+    ensures found { IfSome result (λ option. TakesNumber option.now × IsUnread matches.now option.now) }
+    // If the value of an option that takes a number isn't one, an option is returned.
+    ensures only { (option : List ℕ) → TakesNumber option → IsUnread matches.now option → IsSome result }
+    // If the value of --stride isn't a number, `stride` is returned.
+    ensures first { IsUnread matches.now (codes "stride")
+        → option_map (λ option. option.now) result ≡ Some (codes "stride") }
+{
+    let (_, found) = matches.subcommand()?;
+    if is_unread(found, "stride") {
+        Some("stride")
+    } else if is_unread(found, "stripe-rows") {
+        Some("stripe-rows")
+    } else {
+        None
+    }
+}
+
+/// Whether the flag was given, and has not only its default.
+fn is_given(found: &ArgMatches<'_>, flag: &str) -> bool
+    ensures { IsTrue result ↔ (origin_of flag.now (found_rows (found_of found.now)) ≡ Some CommandLine) }
+{
+    matches!(found.value_source(flag), Some(ValueSource::CommandLine))
+}
+
+/// Whether `--progress` was given after the command's name. The answer is no if the command has no such flag.
+pub fn wants_progress(matches: &ArgMatches<'_>) -> bool
+    // The answer is true if, and only if, `--progress` was given after the command's name.
+    ensures given { IsTrue result ↔ HasProgress matches.now }
+{
+    match matches.subcommand() {
+        Some((_, found)) => is_given(found, "progress"),
+        None => false,
     }
 }
