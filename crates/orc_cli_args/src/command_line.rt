@@ -7,11 +7,11 @@ ghost use Rattle.orc_cli_output.specs.declared.fault.CliFault.TheVariants.{File}
 ghost use Rattle.orc_cli_args.specs.Commands.{IsFound, HasFault, IsAskedIn, IsNotAskedIn};
 ghost use Rattle.orc_cli_args.specs.declared.command_line.Refusal.TheVariants.{Fault, NotUnderstood};
 
-use crate::commands::orcm;
+use crate::commands::{MOST_STRIDE, orcm};
 use clap::error::ErrorKind;
 use clap::{ArgMatches, Error};
 use orc_cli_output::CliFault;
-use orc_tail::FileFault;
+use orc_tail::{FileFault, MOST_STRIPE_ROWS};
 use std::alloc::Global;
 use std::convert::AsStr;
 use std::rt::Env;
@@ -56,7 +56,7 @@ pub fn words_of<R: Env + AllocGlobal + Eprint>(rt: &R) -> Result<Vec<String>, Re
             return Err(Refusal::Fault(CliFault::File(FileFault::OutOfMemory)));
         }
         Err(_) => {
-            let _ = eprintln!(rt; "error: the command line has words that are no UTF-8 text");
+            let _ = eprintln!(rt; "error: a word of the command line isn't UTF-8");
             return Err(Refusal::NotUnderstood);
         }
     };
@@ -90,9 +90,72 @@ pub fn read_words<'a, R: AllocGlobal + Print + Eprint>(
             Err(_) => Err(Refusal::Fault(CliFault::File(FileFault::WriteFailed))),
         },
         _ => {
-            let _ = error.print(rt);
+            say_why(rt, words, &error);
             Err(Refusal::NotUnderstood)
         }
+    }
+}
+
+/// Says on the standard error why the words aren't understood.
+fn say_why<R: Print + Eprint>(rt: &R, words: &[String], error: &Error) {
+    // (`-1` is an unknown option to the parser, whose advice is of no use if it stands for a number)
+    let negative = match error.kind() {
+        ErrorKind::UnknownArgument => negative_number(words),
+        _ => None,
+    };
+    match negative {
+        Some(
+            NegativeNumber {
+                option,
+                number,
+                least,
+                most,
+            },
+        ) => {
+            let _ = eprintln!(rt;
+                "error: invalid value '{number}' for '{option} <N>': {number} is not in {least}..={most}\n\nFor more information, try '--help'."
+            );
+        }
+        None => {
+            let _ = error.print(rt);
+        }
+    }
+}
+
+/// A number below zero in the place of an option's number, and which numbers the option takes.
+#[derive(Clone, Copy)]
+struct NegativeNumber<'w> {
+    option: &'w str,
+    number: &'w str,
+    least: u64,
+    most: u64,
+}
+
+/// The first number below zero among the words of `write`, if the word before it is an option that takes numbers.
+fn negative_number(words: &[String]) -> Option<NegativeNumber<'_>> {
+    if words.get(1)?.as_str() != "write" {
+        return None;
+    }
+    let at = words.iter().position(|word| is_negative(word.as_str()))?;
+    let option = words.get(at.checked_sub(1)?)?.as_str();
+    let (least, most) = match option {
+        "--stride" => (0, MOST_STRIDE),
+        "--stripe-rows" => (1, MOST_STRIPE_ROWS),
+        _ => return None,
+    };
+    Some(NegativeNumber {
+        option,
+        number: words.get(at)?.as_str(),
+        least,
+        most,
+    })
+}
+
+/// Whether the word is a minus and digits.
+fn is_negative(word: &str) -> bool {
+    match word.strip_prefix('-') {
+        Some(digits) => !digits.is_empty() && digits.bytes().all(|byte| byte.is_ascii_digit()),
+        None => false,
     }
 }
 
