@@ -1,7 +1,7 @@
 //! `orcm`, a program for Apache ORC files.
 #![tactic(auto)]
 
-use orc_cli_args::{Asked, Refusal, Request, read_words, request_of, words_of};
+use orc_cli_args::{Asked, Refusal, Request, read_words, request_of, unread_number, words_of};
 use orc_cli_commands::{
     Ending, Outcome, SystemPlace, answer_to, flush_buffer, with_buffer, with_output,
 };
@@ -43,8 +43,9 @@ fn run<R: Env + Files<File = File> + AllocGlobal + Print + Eprint>(
         Asked::Request(matches) => match request_of(&matches) {
             Some(request) => answer(rt, request),
             None => {
+                let option = unread_number(&matches).unwrap_or("stride or --stripe-rows");
                 let _ = eprintln!(rt;
-                    "error: --stride and --stripe-rows take decimal digits alone"
+                    "error: --{option} takes a number in decimal digits alone, without a sign"
                 );
                 Err(Ending::Refused(Refusal::NotUnderstood))
             }
