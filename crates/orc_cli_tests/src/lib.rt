@@ -1,6 +1,6 @@
 //! Tests of the commands by what no command line can bring about: devices of which one call fails, which reads a command
-//! makes, lines whose reading fails, and files in memory. What the program prints, writes and refuses,
-//! `scripts/try-program` and `scripts/try-vectors` try with the program itself.
+//! makes, lines whose reading fails, files in memory, and what words say beside a request. What the program prints,
+//! writes and refuses, `scripts/try-program` and `scripts/try-vectors` try with the program itself.
 #![tactic(auto)]
 
 #[cfg(test)]
@@ -19,5 +19,7 @@ mod refused_writes;
 mod requests;
 #[cfg(test)]
 mod three_stripes;
+#[cfg(test)]
+mod words;
 #[cfg(test)]
 mod writing;
