@@ -1,5 +1,5 @@
 -- What the words behind a command's name ask for.
-use Rattle.std.proofs.Common.{◌≡◌, ℕ, List, Option, Some, None, IsSome, IfSome, IfNone, find, option_map, option_and_then, codes, get_or, sym, ap, subst, ◌∙◌, arith, true, false, inr, refl}
+use Rattle.std.proofs.Common.{◌≡◌, ℕ, List, Option, Some, None, IsSome, IfSome, IfNone, find, option_map, option_and_then, codes, get_or, sym, ap, subst, ◌∙◌, arith, true, false, inl, inr, refl}
 use Rattle.std.specs.Str.{bytes_eq}
 use Rattle.clap.specs.Facts.{Entry}
 use Rattle.clap.specs.Matches.{first_value, matched_of, subcommand_name_of}
@@ -14,7 +14,7 @@ use Rattle.orc_rle.specs.declared.sign.Rle.{Rle}
 use Rattle.orc_rle.specs.declared.sign.Sign.{Sign}
 use Rattle.orc_stripe_writer.specs.declared.options.Options.{Options}
 use Rattle.orc_cli_args.specs.declared.request.Request.{Request}
-use Rattle.orc_cli_args.specs.Requests.{Asks, HasInts, HasWrite, IsUnderstood, ints, rows, show, check, write, merge, IsNotUnderstood, command_rows, origin_of, IsNoNumber, IsUnread}
+use Rattle.orc_cli_args.specs.Requests.{Asks, HasInts, HasWrite, IsUnderstood, ints, rows, show, check, write, merge, IsNotUnderstood, command_rows, origin_of, IsNoNumber, IsUnread, TakesNumber}
 
 -- Who knows the words that were found names them.
 pub asks_some : (P : Found → Type 0) (found : Found) (asked : Option Request) → P found → IfSome asked (Asks found) → IfSome asked (λ request. (x : Found) × P x × Asks x request)
@@ -126,3 +126,9 @@ module _ (m : ArgMatches) (name : Text) (none : None ≡ command_rows m) where
 
   pub nothing_given : (of : ValueSource) → option_and_then (origin_of name) (command_rows m) ≡ Some of → ⊥
   nothing_given of given = let e : None ≡ Some of = ap (option_and_then (origin_of name)) none ∙ given in cc
+
+-- No option that takes a number is unread, if none of the two is.
+pub none_unread : (m : ArgMatches) → (IsUnread m (codes "stride") → ⊥) → (IsUnread m (codes "stripe-rows") → ⊥)
+    → (option : List ℕ) → TakesNumber option → IsUnread m option → ⊥
+none_unread m not_stride not_rows option (inl stride) unread = not_stride (subst (IsUnread m) stride unread)
+none_unread m not_stride not_rows option (inr stripe_rows) unread = not_rows (subst (IsUnread m) stripe_rows unread)

@@ -106,7 +106,7 @@ command_rows m = option_map (λ p. p.1) (subcommand_rows_of m)
 
 -- where the value of an option or a flag comes from: the words, or its default
 abbrev pub origin_of : List ℕ → List Row → Option ValueSource
-origin_of name rows = option_and_then (λ row. row.source) (find (λ row. bytes_eq row.id name) rows)
+origin_of name found = option_and_then (λ row. row.source) (find (λ row. bytes_eq row.id name) found)
 
 -- `--progress` is among them
 abbrev pub HasProgress : ArgMatches → Type 0

@@ -220,7 +220,11 @@ pub fn unread_number(matches: &ArgMatches<'_>) -> Option<&'static str>
 fn is_given(found: &ArgMatches<'_>, flag: &str) -> bool
     ensures { IsTrue result ↔ (origin_of flag.now (found_rows (found_of found.now)) ≡ Some CommandLine) }
 {
-    matches!(found.value_source(flag), Some(ValueSource::CommandLine))
+    match found.value_source(flag) {
+        Some(ValueSource::CommandLine) => true,
+        Some(ValueSource::DefaultValue) => false,
+        None => false,
+    }
 }
 
 /// Whether `--progress` was given after the command's name. The answer is no if the command has no such flag.
