@@ -13,7 +13,9 @@ mod new_file;
 mod outcome;
 mod place;
 mod printing;
+mod progress;
 mod system_place;
+mod watched;
 mod writing;
 
 pub use answering::answer_to;
@@ -31,4 +33,6 @@ pub use orc_cli_write::{LineFault, LineReader, StdLines, write_from, write_lines
 pub use orc_merger::{MergeFault, merge as merge_to};
 pub use outcome::Outcome;
 pub use place::Place;
+pub use progress::Progress;
 pub use system_place::SystemPlace;
+pub use watched::Watched;
