@@ -1,3 +1,4 @@
 pub mod Places
 pub mod Commands
 pub mod Answers
+pub mod Progress
