@@ -1,14 +1,17 @@
 //! `orcm`, a program for Apache ORC files.
 #![tactic(auto)]
 
-use orc_cli_args::{Asked, Refusal, Request, read_words, request_of, unread_number, words_of};
+use orc_cli_args::{
+    Asked, Refusal, Request, read_words, request_of, unread_number, wants_progress, words_of,
+};
 use orc_cli_commands::{
-    Ending, Outcome, SystemPlace, answer_to, flush_buffer, with_buffer, with_output,
+    Ending, Meter, Outcome, SystemPlace, answer_to, flush_buffer, meter_of, with_buffer,
+    with_output,
 };
 use std::fs::File;
 use std::io;
 use std::process::ExitCode;
-use std::rt::{Env, Files};
+use std::rt::{Clock, Env, Files};
 
 fn main(rt: HostRuntime) -> ExitCode {
     match run(&rt) {
@@ -35,13 +38,13 @@ fn tell<R: Eprint>(rt: &R, ending: Ending) {
 }
 
 /// Carries out what the command line asks for.
-fn run<R: Env + Files<File = File> + AllocGlobal + Print + Eprint>(
+fn run<R: Env + Files<File = File> + AllocGlobal + Print + Eprint + Clock>(
     rt: &R,
 ) -> Result<Outcome, Ending> {
     let words = words_of(rt)?;
     match read_words(rt, words.as_slice())? {
         Asked::Request(matches) => match request_of(&matches) {
-            Some(request) => answer(rt, request),
+            Some(request) => answer(rt, request, &meter_of(rt, wants_progress(&matches))),
             None => {
                 let option = unread_number(&matches).unwrap_or("stride or --stripe-rows");
                 let _ = eprintln!(rt;
@@ -54,12 +57,20 @@ fn run<R: Env + Files<File = File> + AllocGlobal + Print + Eprint>(
     }
 }
 
-/// Answers one request over the files of the system, on the standard output.
-fn answer<R: Files<File = File> + AllocGlobal + Print>(
+/// Answers one request over the files of the system, on the standard output. Before what was printed is flushed, the
+/// meter's line is removed.
+fn answer<R: Files<File = File> + AllocGlobal + Print + Eprint + Clock>(
     rt: &R,
     request: Request<'_, '_>,
+    meter: &Meter<'_, R>,
 ) -> Result<Outcome, Ending> {
     let mut out = with_buffer(rt.alloc(), io::writer(rt))?;
-    let answered = answer_to(rt.alloc(), &mut SystemPlace::new(rt), request, &mut out);
+    let answered = answer_to(
+        rt.alloc(),
+        &mut SystemPlace::new(rt, meter),
+        request,
+        &mut out,
+    );
+    meter.wipe();
     with_output(answered, flush_buffer(out))
 }

@@ -7,28 +7,32 @@ use crate::buffer::{BUFFER, with_buffer};
 use crate::durable::SystemFile;
 use crate::new_file::NewFile;
 use crate::place::Place;
+use crate::progress::Progress;
+use crate::watched::Watched;
 use orc_cli_args::{new_file, source_of};
 use orc_cli_output::CliFault;
 use orc_cli_write::StdLines;
-use orc_file::{FileFault, FileSource};
+use orc_file::{FileFault, FileSource, Source};
 use std::alloc::Global;
 use std::fs::File;
 use std::io::{self, BufRead, BufReader};
 use std::rt::Files;
 
-/// The files of the system, and of those that were made the one that was closed last, behind its path. It tells nothing
-/// of their bytes.
+/// The files of the system, whose reads a meter is told of, and of those that were made the one that was closed last,
+/// behind its path. It tells nothing of their bytes.
 #[derive(Drop)]
-pub struct SystemPlace<'a, R: Files<File = File>> {
+pub struct SystemPlace<'a, R: Files<File = File>, M: Progress> {
     files: &'a R,
+    meter: &'a M,
     closed: Option<(&'a str, SystemFile)>,
 }
 
-impl<'a, R: Files<File = File>> SystemPlace<'a, R> {
-    /// The files that this runtime opens.
-    pub fn new(files: &'a R) -> SystemPlace<'a, R> {
+impl<'a, R: Files<File = File>, M: Progress> SystemPlace<'a, R, M> {
+    /// The files that this runtime opens, and the meter that is told of them.
+    pub fn new(files: &'a R, meter: &'a M) -> SystemPlace<'a, R, M> {
         SystemPlace {
             files,
+            meter,
             closed: None,
         }
     }
@@ -44,13 +48,22 @@ fn fault_of(error: &io::Error) -> FileFault
     }
 }
 
+/// Tells the meter how long a regular file is. Of a pipe that isn't known.
+fn tell_length<M: Progress>(file: &File, meter: &M) {
+    match file.metadata() {
+        Ok(metadata) if metadata.is_file() => meter.ahead(metadata.len()),
+        _ => {}
+    }
+}
+
 /// A file's bytes, from its front. That some of them are read, or that there are none, is seen before anything is made
 /// of them.
-fn reader_of<R: Files<File = File>>(
+fn reader_of<'m, R: Files<File = File>, M: Progress>(
     files: &R,
+    meter: &'m M,
     alloc: Global,
     path: &str,
-) -> Result<BufReader<File>, CliFault>
+) -> Result<BufReader<Watched<'m, File, M>>, CliFault>
     ensures { IfErr result (λ fault.
         (fault ≡ FileFaulted file.SourceFailed) ⊎ (fault ≡ FileFaulted file.OutOfMemory)) }
 {
@@ -58,7 +71,8 @@ fn reader_of<R: Files<File = File>>(
         Ok(file) => file,
         Err(error) => return Err(CliFault::File(fault_of(&error))),
     };
-    let mut reader = match BufReader::with_capacity(alloc, BUFFER, file) {
+    tell_length(&file, meter);
+    let mut reader = match BufReader::with_capacity(alloc, BUFFER, Watched::new(file, meter)) {
         Ok(reader) => reader,
         Err(_) => return Err(CliFault::File(FileFault::OutOfMemory)),
     };
@@ -68,10 +82,10 @@ fn reader_of<R: Files<File = File>>(
     Ok(reader)
 }
 
-impl<'a, R: Files<File = File>> Place<'a> for SystemPlace<'a, R> {
-    type Input = FileSource<'a, R>;
+impl<'a, R: Files<File = File>, M: Progress> Place<'a> for SystemPlace<'a, R, M> {
+    type Input = Watched<'a, FileSource<'a, R>, M>;
 
-    type Lines = StdLines<BufReader<File>>;
+    type Lines = StdLines<BufReader<Watched<'a, File, M>>>;
 
     type Output = NewFile<SystemFile>;
 
@@ -81,15 +95,26 @@ impl<'a, R: Files<File = File>> Place<'a> for SystemPlace<'a, R> {
 
     ghost made = { λ _ _. None };
 
+<<<<<<< HEAD
     ghost durable = { λ place path. IsSomeAnd place.closed
         (λ closed. (closed.0.now ≡ path) × (closed.1.synced ≡ true)) };
 
     fn open(&self, path: &'a str) -> Result<FileSource<'a, R>, CliFault> {
         source_of(self.files, path)
+=======
+    fn open(&self, path: &'a str) -> Result<Watched<'a, FileSource<'a, R>, M>, CliFault> {
+        let source = source_of(self.files, path)?;
+        self.meter.ahead(source.len());
+        Ok(Watched::new(source, self.meter))
+>>>>>>> e5b1ae43 (Show the progress of a command whose option asks for it)
     }
 
-    fn lines(&self, alloc: Global, path: &'a str) -> Result<StdLines<BufReader<File>>, CliFault> {
-        Ok(StdLines::new(reader_of(self.files, alloc, path)?))
+    fn lines(
+        &self,
+        alloc: Global,
+        path: &'a str,
+    ) -> Result<StdLines<BufReader<Watched<'a, File, M>>>, CliFault> {
+        Ok(StdLines::new(reader_of(self.files, self.meter, alloc, path)?))
     }
 
     fn make(&mut self, alloc: Global, path: &'a str) -> Result<NewFile<SystemFile>, CliFault> {
