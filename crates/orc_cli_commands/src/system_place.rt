@@ -95,18 +95,13 @@ impl<'a, R: Files<File = File>, M: Progress> Place<'a> for SystemPlace<'a, R, M>
 
     ghost made = { λ _ _. None };
 
-<<<<<<< HEAD
     ghost durable = { λ place path. IsSomeAnd place.closed
         (λ closed. (closed.0.now ≡ path) × (closed.1.synced ≡ true)) };
 
-    fn open(&self, path: &'a str) -> Result<FileSource<'a, R>, CliFault> {
-        source_of(self.files, path)
-=======
     fn open(&self, path: &'a str) -> Result<Watched<'a, FileSource<'a, R>, M>, CliFault> {
         let source = source_of(self.files, path)?;
         self.meter.ahead(source.len());
         Ok(Watched::new(source, self.meter))
->>>>>>> e5b1ae43 (Show the progress of a command whose option asks for it)
     }
 
     fn lines(
