@@ -61,8 +61,8 @@ static STEPS: [(Option<u64>, Step, bool, &str); 13] = [
 fn check_printed(rt: &impl Abort, screen: &Screen, is_wiped: bool, line: &str) {
     let printed = screen.take_printed();
     let wiped = if is_wiped { WIPED } else { "" };
-    let blanks = printed.bytes().len().min(wiped.len());
-    let (front, rest) = printed.bytes().split_at(blanks);
+    let bytes = printed.bytes();
+    let (front, rest) = bytes.split_at(bytes.len().min(wiped.len()));
     check_bytes(rt, "blanks", front, wiped.as_bytes());
     check_bytes(rt, "line", rest, line.as_bytes());
 }
