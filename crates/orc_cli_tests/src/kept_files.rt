@@ -133,12 +133,8 @@ fn finish(rt: &impl Abort, alloc: Global, out: KeptOut<'_>, case: &Case) -> Opti
     check_same(rt, "taken", &file.write(BYTES), &case.taken);
     match file.finish() {
         Ok(kept) => {
-            check_bytes(
-                rt,
-                "kept",
-                kept.out.written(),
-                &BYTES[..case.taken.unwrap_or(0)],
-            );
+            let (taken, _) = BYTES.split_at(case.taken.unwrap_or(0).min(BYTES.len()));
+            check_bytes(rt, "kept", kept.out.written(), taken);
             None
         }
         Err((fault, _)) => Some(fault),
