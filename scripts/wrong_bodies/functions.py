@@ -37,8 +37,18 @@ class Place:
 
     def trait(self):
         """Returns the trait of which this function is an `impl`'s, or nothing."""
-        found = re.search(r"\b(\w+)\s*(?:<[^{;]*>)?\s+for\b", self.head) if "impl" in self.head else None
+        found = re.match(r"\s*(?:\w+::)*(\w+)\s*(?:<[^{;]*>)?\s+for\b", behind_generics(self.head.partition("impl")[2]))
         return found[1] if found else ""
+
+
+def behind_generics(text):
+    """Returns the text behind the brackets that an `impl` begins with."""
+    depth = 0
+    for at, letter in enumerate(text):
+        depth += (letter == "<") - (letter == ">" and text[at - 1] != "-")
+        if not depth and letter != "<" and (letter == ">" or at == 0):
+            return text[at + 1 :] if letter == ">" else text
+    return text
 
 
 def start_of(text, at):
