@@ -1,0 +1,16 @@
+-- A vector that a call writes to takes no more only for want of memory, and so it is told (own).
+use Rattle.std.specs.Prelude.{◌≡◌, ◌≢◌, ◌⊎◌}
+use Rattle.orc_tail.specs.declared.fault.FileFault.TheVariants as file
+use Rattle.orc_merger.specs.declared.fault.MergeFault.{MergeFault}
+use Rattle.orc_merger.specs.declared.fault.MergeFault.TheVariants.{WriteFailed, OutOfMemory}
+use Rattle.orc_cli_output.specs.Output.{write_failed}
+use Rattle.orc_cli_output.specs.declared.fault.CliFault.{CliFault}
+use Rattle.orc_cli_output.specs.declared.fault.CliFault.TheVariants.{File}
+
+-- a failed output is told as want of memory, and any other fault as it is
+abbrev pub ToldAs : CliFault → CliFault → Type 0
+ToldAs was told = ((was ≡ write_failed) × (told ≡ File file.OutOfMemory)) ⊎ ((was ≢ write_failed) × (told ≡ was))
+
+-- a merge's failed output is told as want of memory, and any other fault as it is
+abbrev pub MergeToldAs : MergeFault → MergeFault → Type 0
+MergeToldAs was told = ((was ≡ WriteFailed) × (told ≡ OutOfMemory)) ⊎ ((was ≢ WriteFailed) × (told ≡ was))

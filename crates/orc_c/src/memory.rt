@@ -1,0 +1,26 @@
+//! Faults of a vector that a call writes to.
+ghost use Rattle.orc_c.specs.Memory.{ToldAs, MergeToldAs};
+
+use orc_cli_output::CliFault;
+use orc_file::FileFault;
+use orc_merger::MergeFault;
+
+/// The fault that is told: a vector takes no more only for want of memory.
+pub(crate) fn told_of(fault: CliFault) -> CliFault
+    ensures { ToldAs fault result }
+{
+    match fault {
+        CliFault::File(FileFault::WriteFailed) => CliFault::File(FileFault::OutOfMemory),
+        other => other,
+    }
+}
+
+/// The fault of a merge that is told: a vector takes no more only for want of memory.
+pub(crate) fn merge_told_of(fault: MergeFault) -> MergeFault
+    ensures { MergeToldAs fault result }
+{
+    match fault {
+        MergeFault::WriteFailed => MergeFault::OutOfMemory,
+        other => other,
+    }
+}
