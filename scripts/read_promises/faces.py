@@ -1,7 +1,7 @@
 """What a user of a crate can reach: the names that its src/lib.rt exports, each with the file that it stands in."""
 import re
 
-ITEM = r"^pub (?:const )?(?:fn|struct|enum|trait|type|const|static) (\w+)"
+ITEM = r'^pub (?:const )?(?:extern "C" )?(?:fn|struct|enum|trait|type|const|static) (\w+)'
 
 
 def public_crates(tree):

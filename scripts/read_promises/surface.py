@@ -52,6 +52,7 @@ PARTS = (
             ("orc_cli_write", "write_from"),
             ("orc_cli_commands", "merge_to"),
             ("orc_cli_show", "show_to"),
+            ("orc_c", "orcm_rows orcm_show orcm_merge orcm_write"),
         ),
     ),
     (
@@ -63,6 +64,7 @@ PARTS = (
             ("orc_stripe", "StripeView::index StripeView::positions_right StripeView::cursor StripeView::cursor_at RowCursor::next"),
             ("orc_check", "check"),
             ("orc_cli_check", "check_to"),
+            ("orc_c", "orcm_check"),
         ),
     ),
 )
