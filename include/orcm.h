@@ -61,6 +61,10 @@ enum {
  *
  * Threads. Calls share nothing, so that several threads may call at the same time, each with an `out` of its own.
  *
+ * Stack. A call takes more of it than most C functions, and nothing tests that it suffices. In threads with 1 MiB of
+ * stack check, rows, show and merge went over the files of vectors/ but those of vectors/tells-of-much; with 512 KiB
+ * some ended the process (2026-12-01). write wasn't measured. Give 8 MiB, as a program's first thread has.
+ *
  * Memory. Beside what the command itself takes (docs/USE.md, "Memory"), a call holds all the bytes that it makes before
  * it puts them into `out`, in a block that grows by doubling. A buffer that is too small costs as much as one that
  * isn't. If there is not enough memory, the call is refused, as far as malloc and realloc say so by NULL. */
