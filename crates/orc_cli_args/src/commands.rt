@@ -20,7 +20,7 @@ use orc_tail::MOST_STRIPE_ROWS;
 use std::alloc::Global;
 
 /// The program's own version.
-const VERSION: &str = "0.1.0";
+const VERSION: &str = "0.2.0";
 
 /// After how many rows a group of the row index may begin at most.
 pub(crate) const MOST_STRIDE: u64 = 4_294_967_295;
