@@ -180,13 +180,13 @@ class Tree:
         return [found] if found else []
 
     def handed_on(self, crate, name):
-        """Returns a type that a crate hands on from one below it."""
+        """Returns a type that a crate hands on from one below it, which may hand it on, too."""
         if crate not in self.crates:
             return None
         for path in rust_files(crate):
             below, own = self.source(path).types.get(name, (None, None))
-            if below in self.crates:
-                return self.rust_type(below, own)
+            if below in self.crates and below != crate:
+                return self.rust_type(below, own) or self.handed_on(below, own)
         return None
 
     def ghost_names(self, source, text, bound=()):

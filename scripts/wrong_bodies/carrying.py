@@ -2,8 +2,10 @@
 
 A line is carried over if the edit, the function that it changes with its contract, and the heads of what this calls are word for word
 what they were, each name of scripts/kept/names-turned-back read as the old one. Definitions may differ. The line gets the new sums, and
-keeps its `tried=`, which says on which text the edit was really tried."""
+keeps its `tried=`, which says on which text the edit was really tried. Where crates were cut, an older commit says which heads these
+were (older.py)."""
 from .edits import edits_of
+from .older import Older
 from .records import Line, Record, record_of
 from .spelling import kept_names
 from .sums import Sums
@@ -18,10 +20,11 @@ def carried(line, sums, names):
     return Line(line.file, sums, line.tried, line.seconds, goals, proved)
 
 
-def carry(crates, sources, kit):
+def carry(crates, sources, kit, rev=None):
     """Carries over what it can of these crates' records, and returns how many lines it carried, and why it couldn't carry others."""
     names = kept_names()
     present, turned = Sums(sources), Sums(sources, names)
+    older = Older(rev, sources, names) if rev else None
     count, refused = 0, []
     for crate in crates:
         old = record_of(crate)
@@ -32,7 +35,7 @@ def carry(crates, sources, kit):
             continue
         record = Record(crate, old.kit, old.lines.values())
         for edit in edits_of(crate):
-            line, why = carried_line(edit, old, present, turned, names)
+            line, why = carried_line(edit, old, present, turned, names, older)
             if line:
                 record.lines[edit.file] = line
                 count += 1
@@ -47,7 +50,7 @@ def differing(line, sums):
     return [words for it, words in SAME.items() if line.sums[it] != sums[it]]
 
 
-def carried_line(edit, old, present, turned, names):
+def carried_line(edit, old, present, turned, names, older=None):
     """Returns the line that is carried over for an edit, or why none is, or neither if its line is of the present text."""
     line = old.lines.get(edit.file) or old.lines.get(names.turned_back(edit.file))
     if not line:
@@ -57,6 +60,8 @@ def carried_line(edit, old, present, turned, names):
         return None, None
     # (a line may be of a text after the names were changed, or before)
     differs = min((differing(line, it) for it in (sums, turned.of(edit))), key=len)
+    if differs and older:
+        differs = older.differing(edit, line)
     if differs:
         return None, f"{' and '.join(differs)} isn't word for word what it was"
     line = carried(line, sums, names)
