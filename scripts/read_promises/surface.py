@@ -17,7 +17,7 @@ PARTS = (
         "does nothing undefined: no index is out of range, no number wraps, and no memory is used after it was given back. The toolchain "
         "proves this of every function before any clause, so it has no rows ([PROOF.md](PROOF.md#for-every-function) says what it "
         "presumes). Each refusal has a name, which [FAULTS.md](FAULTS.md) explains. What a refused call leaves as it was is said in the "
-        "call's rows. In `orc_file` and `orc_merger`, SourceFailed and WriteFailed come only if a count of failures rose during the call, "
+        "call's rows. In `orc_file_reader`, `orc_file_writer` and `orc_merger`, SourceFailed and WriteFailed come only if a count of failures rose during the call, "
         "that of the source or that of the output.",
         (),
     ),
@@ -33,8 +33,9 @@ PARTS = (
             ("orc_rle", "BitRuns::put_runs BitRuns::decode"),
             ("orc_types", "Schema::from_types Schema::types Schema::parse Schema::text fits cells row_from_json row_to_json"),
             ("orc_stats", "Tally::unit Tally::add Tally::join Tally::close tally_laws of_cells join_all Stat::read Stat::put"),
-            ("orc_stripe_writer", "Options::new write_stripe"),
-            ("orc_stripe", "StripeView::open StripeView::rows"),
+            ("orc_row_batch", "Options::new"),
+            ("orc_stripe_writer", "write_stripe"),
+            ("orc_stripe_reader", "StripeView::open StripeView::rows"),
         ),
     ),
     (
@@ -43,10 +44,12 @@ PARTS = (
         (
             ("orc_io", "Source::len Source::read_at SliceSource::new SliceSource::len SliceSource::read_at FileSource::open"),
             ("orc_io", "Sink::write VecSink::new VecSink::into_vec VecSink::write StdSink::new StdSink::write"),
-            ("orc_file", "OrcFile::open OrcFile::open_capped OrcFile::schema OrcFile::tail OrcFile::into_parts"),
-            ("orc_file", "OrcFile::load OrcFile::view OrcFile::rows Writer::new Writer::push Writer::written Writer::finish"),
+            ("orc_file_reader", "OrcFile::open OrcFile::open_capped OrcFile::schema OrcFile::tail OrcFile::into_parts"),
+            ("orc_file_reader", "OrcFile::load OrcFile::view OrcFile::rows"),
+            ("orc_file_writer", "Writer::new Writer::push Writer::written Writer::finish"),
             ("orc_tail", "Tail::put"),
-            ("orc_merger", "merge grouping orders"),
+            ("orc_merger", "merge"),
+            ("orc_merge_laws", "grouping orders"),
             ("orc_cli_ints", "ints_to"),
             ("orc_cli_rows", "rows_to"),
             ("orc_cli_write", "write_from"),
@@ -61,7 +64,7 @@ PARTS = (
         "finds everything that is wrong in a file, and nothing else.",
         (
             ("orc_rle", "RunCodec::seek ByteRuns::seek BitRuns::seek"),
-            ("orc_stripe", "StripeView::index StripeView::positions_right StripeView::cursor StripeView::cursor_at RowCursor::next"),
+            ("orc_stripe_reader", "StripeView::index StripeView::positions_right StripeView::cursor StripeView::cursor_at RowCursor::next"),
             ("orc_check", "check"),
             ("orc_cli_check", "check_to"),
             ("orc_c", "orcm_check"),

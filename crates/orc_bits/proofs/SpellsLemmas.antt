@@ -5,7 +5,7 @@ use borrow.Rule.Slice.PartMut.{put_mid}
 use Rattle.std.proofs.Math.Seq.{take-append-add}
 use Rattle.std.proofs.Math.Nat.{mul-add}
 use Rattle.std.proofs.lemmas.Slice.{take-put_mid}
-use Rattle.orc_bits.specs.Packed.{digits, packed_len, AllFit, Spells, IsPacked}
+use Rattle.orc_bits.specs.Packed.{digits, packed_len, AllFit, SpellsPacked, IsPacked}
 use Rattle.orc_bits.proofs.PackedLemmas.{cut, digits-append, length-digits, AllFit-append, AllFit-front}
 
 -- the two halves of each number's digits
@@ -22,17 +22,17 @@ AllFit-halves : (k : ℕ) (vs : List ℕ) → AllFit (k + k) vs → AllFit k (ha
 AllFit-halves k [] h = tt
 AllFit-halves k (v ∷ vs) h = (shr_below v k k h.0, (mod_below v (2 ^ k) (pow_pos k), AllFit-halves k vs h.1))
 
-pub Spells-halves : (k : ℕ) (vs : List ℕ) → AllFit (k + k) vs → Spells (k + k) vs k (halves k vs)
+pub Spells-halves : (k : ℕ) (vs : List ℕ) → AllFit (k + k) vs → SpellsPacked (k + k) vs k (halves k vs)
 Spells-halves k vs h = (AllFit-halves k vs h, digits-halves k vs)
 
-pub Spells-append : (u w : ℕ) (a b x y : List ℕ) → Spells u a w x → Spells u b w y → Spells u (a ++ b) w (x ++ y)
+pub Spells-append : (u w : ℕ) (a b x y : List ℕ) → SpellsPacked u a w x → SpellsPacked u b w y → SpellsPacked u (a ++ b) w (x ++ y)
 Spells-append u w a b x y p q = (AllFit-append w x y p.0 q.0, digits-append w x y ∙ (rw (p.1, q.1) (sym (digits-append u a b))))
 
 -- numbers that are spelled by others, which are spelled in two parts
-pub Spells-parts : (t u w : ℕ) (numbers a b x y : List ℕ) → Spells t numbers u (a ++ b) → Spells u a w x → Spells u b w y → Spells t numbers w (x ++ y)
+pub Spells-parts : (t u w : ℕ) (numbers a b x y : List ℕ) → SpellsPacked t numbers u (a ++ b) → SpellsPacked u a w x → SpellsPacked u b w y → SpellsPacked t numbers w (x ++ y)
 Spells-parts t u w numbers a b x y h p q = let both = Spells-append u w a b x y p q in (both.0, both.1 ∙ h.1)
 
-pub Spells-none : (w count : ℕ) (out : List ℕ) → Spells 8 [] w (take (count * 0) out)
+pub Spells-none : (w count : ℕ) (out : List ℕ) → SpellsPacked 8 [] w (take (count * 0) out)
 unfolding digits
 Spells-none w count out = let z : count * 0 ≡ 0 = omega arith in rw z (tt, refl)
 
@@ -49,12 +49,12 @@ both_set (x ∷ y ∷ z ∷ out) a b e = absurd (omega (arith, e))
 
 -- the values of some more bytes stand behind those that are there
 pub Spells-more : (w at count end : ℕ) (all text more out values : List ℕ) → at ≤ length out → end ≡ at + length values → all ≡ text ++ more
-    → Spells 8 text w (take at out) → Spells 8 more w values → Spells 8 all w (take end (put_mid at count out values))
+    → SpellsPacked 8 text w (take at out) → SpellsPacked 8 more w values → SpellsPacked 8 all w (take end (put_mid at count out values))
 Spells-more w at count end all text more out values le e cut p q = rw (cut, take-put_mid at count out values end e le) (Spells-append 8 w text more (take at out) values p q)
 
 -- the values of whole bytes, and then those of the bytes behind them
 pub join : (w n k : ℕ) (bytes text rest front back : List ℕ) → AllFit 8 bytes → bytes ≡ text ++ rest → length front + length back ≡ n → k ≡ length back
-    → Spells 8 text w front → IsPacked (take (packed_len w k) rest) w back → IsPacked (take (packed_len w n) bytes) w (front ++ back)
+    → SpellsPacked 8 text w front → IsPacked (take (packed_len w k) rest) w back → IsPacked (take (packed_len w n) bytes) w (front ++ back)
 join w n k bytes text rest front back small whole total same h packed =
     let p = rw same at packed in
     let tail = take (packed_len w (length back)) rest in

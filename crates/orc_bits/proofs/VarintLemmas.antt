@@ -152,7 +152,7 @@ groups_text (suc k) n lt = elim (cases_lt n 128) [
       rw (ltb_no n 128 more) (text_cons (n % 128 + 128) n (n / 128) (groups k (n / 128)) (omega arith, omega arith) (omega arith) (omega arith) (groups_text k (n / 128) small))
 ]
 
-groups_len : (k n : ℕ) → length (groups k n) ≤ suc k
+pub groups_len : (k n : ℕ) → length (groups k n) ≤ suc k
 groups_len zero n = omega arith
 groups_len (suc k) n = elim (cases_lt n 128) [
   | inl less ↦ rw (ltb_yes n 128 less) (omega arith)

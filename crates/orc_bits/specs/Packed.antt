@@ -21,8 +21,8 @@ abbrev pub AllFit : ℕ → List ℕ → Type 0
 AllFit w vs = AllByRecursion (λ v. v < 2 ^ w) vs
 
 -- values of w digits, whose digits one after the other are those of numbers of u digits
-abbrev pub Spells : ℕ → List ℕ → ℕ → List ℕ → Type 0
-Spells u numbers w values = AllFit w values × (digits w values ≡ digits u numbers)
+abbrev pub SpellsPacked : ℕ → List ℕ → ℕ → List ℕ → Type 0
+SpellsPacked u numbers w values = AllFit w values × (digits w values ≡ digits u numbers)
 
 -- the bytes are the least number that holds the values, and their digits begin with those of the values
 pub record IsPacked (bytes : List ℕ) (w : ℕ) (values : List ℕ) : Type 0 where

@@ -1,6 +1,6 @@
 //! Numbers of 1, 2, 4 and 8 digits out of whole bytes, a byte at a time.
 ghost use Rattle.std.specs.Prelude.{◌≡◌, ◌+◌, ◌*◌, ◌%◌, ◌^◌, ◌<◌, ◌≤◌, [], ◌∷◌, length};
-ghost use Rattle.orc_bits.specs.Packed.{Spells};
+ghost use Rattle.orc_bits.specs.Packed.{SpellsPacked};
 
 /// The two halves of a number's digits.
 #[inline(always)]
@@ -9,7 +9,7 @@ fn halves(number: u64, half: u32) -> (u64, u64)
     requires fits { number < 2 ^ (half + half) }
     ensures front { result.0 < 2 ^ half }
     ensures back { result.1 < 2 ^ half }
-    ensures spelled { Spells (half + half) (number ∷ []) half (result.0 ∷ result.1 ∷ []) }
+    ensures spelled { SpellsPacked (half + half) (number ∷ []) half (result.0 ∷ result.1 ∷ []) }
 {
     (number >> half, number & ((1 << half) - 1))
 }
@@ -29,7 +29,7 @@ fn put_halves(number: u64, half: u32, out: &mut [u64])
     requires few { half ≤ 4 }
     requires fits { number < 2 ^ (half + half) }
     requires len { length out.old ≡ 2 }
-    ensures { Spells (half + half) (number ∷ []) half out.new }
+    ensures { SpellsPacked (half + half) (number ∷ []) half out.new }
 {
     let (front, back) = halves(number, half);
     out[0] = front;
@@ -42,7 +42,7 @@ fn put_quarters(number: u64, quarter: u32, out: &mut [u64])
     requires few { quarter ≤ 2 }
     requires fits { number < 2 ^ ((quarter + quarter) + (quarter + quarter)) }
     requires len { length out.old ≡ 4 }
-    ensures { Spells ((quarter + quarter) + (quarter + quarter)) (number ∷ []) quarter out.new }
+    ensures { SpellsPacked ((quarter + quarter) + (quarter + quarter)) (number ∷ []) quarter out.new }
 {
     let (front, back) = halves(number, quarter + quarter);
     let (first, second) = out.split_at_mut(2);
@@ -55,7 +55,7 @@ fn put_quarters(number: u64, quarter: u32, out: &mut [u64])
 fn put_eighths(byte: u64, out: &mut [u64])
     requires fits { byte < 2 ^ 8 }
     requires len { length out.old ≡ 8 }
-    ensures { Spells 8 (byte ∷ []) 1 out.new }
+    ensures { SpellsPacked 8 (byte ∷ []) 1 out.new }
 {
     let (front, back) = halves(byte, 4);
     let (first, second) = out.split_at_mut(4);
@@ -70,7 +70,7 @@ fn put_numbers(byte: u64, width: u32, out: &mut [u64])
     requires divides { 8 % width ≡ 0 }
     requires fits { byte < 2 ^ 8 }
     requires len { width * length out.old ≡ 8 }
-    ensures { Spells 8 (byte ∷ []) width out.new }
+    ensures { SpellsPacked 8 (byte ∷ []) width out.new }
 {
     match width {
         1 => put_eighths(byte, out),
@@ -86,7 +86,7 @@ pub(crate) fn unpack_by_bytes(bytes: &[u8], width: u32, count: usize, out: &mut 
     requires divides { 8 % width ≡ 0 }
     requires count { width * count ≡ 8 }
     requires out { length out.old ≡ count * length bytes.now }
-    ensures { Spells 8 bytes.now width out.new }
+    ensures { SpellsPacked 8 bytes.now width out.new }
 {
     for i in 0..bytes.len() {
         put_numbers(

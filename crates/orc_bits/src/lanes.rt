@@ -1,6 +1,6 @@
 //! Numbers of 1, 2, 4 and 8 digits out of chunks of eight bytes, each byte in a lane of its own.
 ghost use Rattle.std.specs.Prelude.{◌≡◌, ◌+◌, ◌*◌, ◌%◌, ◌≤◌, ◌++◌, length};
-ghost use Rattle.orc_bits.specs.Packed.{AllFit, Spells};
+ghost use Rattle.orc_bits.specs.Packed.{AllFit, SpellsPacked};
 
 use std::simd::prelude::*;
 
@@ -9,7 +9,7 @@ use std::simd::prelude::*;
 fn halves(lanes: u8x8, half: u32) -> (u8x8, u8x8)
     requires few { half ≤ 4 }
     requires fit { AllFit (half + half) lanes }
-    ensures { Spells (half + half) lanes half (result.0 ++ result.1) }
+    ensures { SpellsPacked (half + half) lanes half (result.0 ++ result.1) }
 {
     let fronts = lanes >> u8x8::splat(half as u8);
     let backs = lanes & u8x8::splat((1 << half) - 1);
@@ -31,7 +31,7 @@ fn put_halves(lanes: u8x8, half: u32, out: &mut [u64])
     requires few { half ≤ 4 }
     requires fit { AllFit (half + half) lanes }
     requires len { length out.old ≡ 16 }
-    ensures { Spells (half + half) lanes half out.new }
+    ensures { SpellsPacked (half + half) lanes half out.new }
 {
     let (front, back) = halves(lanes, half);
     let (first, second) = out.split_at_mut(8);
@@ -45,7 +45,7 @@ fn put_quarters(lanes: u8x8, quarter: u32, out: &mut [u64])
     requires few { quarter ≤ 2 }
     requires fit { AllFit ((quarter + quarter) + (quarter + quarter)) lanes }
     requires len { length out.old ≡ 32 }
-    ensures { Spells ((quarter + quarter) + (quarter + quarter)) lanes quarter out.new }
+    ensures { SpellsPacked ((quarter + quarter) + (quarter + quarter)) lanes quarter out.new }
 {
     let (front, back) = halves(lanes, quarter + quarter);
     let (first, second) = out.split_at_mut(16);
@@ -58,7 +58,7 @@ fn put_quarters(lanes: u8x8, quarter: u32, out: &mut [u64])
 fn put_eighths(lanes: u8x8, out: &mut [u64])
     requires fit { AllFit 8 lanes }
     requires len { length out.old ≡ 64 }
-    ensures { Spells 8 lanes 1 out.new }
+    ensures { SpellsPacked 8 lanes 1 out.new }
 {
     let (front, back) = halves(lanes, 4);
     let (first, second) = out.split_at_mut(32);
@@ -73,7 +73,7 @@ fn put_numbers(lanes: u8x8, width: u32, out: &mut [u64])
     requires divides { 8 % width ≡ 0 }
     requires fit { AllFit 8 lanes }
     requires len { width * length out.old ≡ 64 }
-    ensures { Spells 8 lanes width out.new }
+    ensures { SpellsPacked 8 lanes width out.new }
 {
     match width {
         1 => put_eighths(lanes, out),
@@ -96,7 +96,7 @@ pub(crate) fn unpack_by_chunks(
     requires count { width * count ≡ 64 }
     requires bytes { length bytes.now ≡ 8 * chunks }
     requires out { length out.old ≡ count * chunks }
-    ensures { Spells 8 bytes.now width out.new }
+    ensures { SpellsPacked 8 bytes.now width out.new }
 {
     for i in 0..chunks {
         let lanes = u8x8::from_slice(&bytes[8 * i..]);

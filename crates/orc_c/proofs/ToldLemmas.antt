@@ -1,16 +1,15 @@
 -- What is told of a command's fault over bytes in memory, whose source never fails.
-use Rattle.std.specs.Prelude.{IfOk, IfErr}
-use Rattle.std.proofs.Common.{Result, Ok, Err, ◌≡◌, ◌≢◌, ◌⊎◌, ◌∙◌, ℕ, List, [], Option, Some, None, inl, inr, ◌∷◌, refl, sym, subst, map, slice_index}
+use Rattle.std.proofs.Common.{◌≡◌, ◌≢◌, ◌⊎◌, ◌∙◌, ℕ, List, [], Option, Some, None, inl, inr, ◌∷◌, refl, sym, subst, map, slice_index}
 use Rattle.std.proofs.Math.ListN.{get_or-map}
 use Rattle.std.specs.Borrow.{Bor}
 use Rattle.orc_values.specs.Shapes.{Shape}
 use Rattle.orc_values.specs.Cells.{Cell}
-use Rattle.orc_types.specs.SchemaText.{HasText}
-use Rattle.orc_stripe_writer.specs.declared.options.Options.{Options}
+use Rattle.orc_types.specs.Schemas.{HasText}
+use Rattle.orc_row_batch.specs.declared.options.Options.{Options}
 use Rattle.orc_tail.specs.Tails.{IsTail}
 use Rattle.orc_tail.specs.declared.tail.Tail.{Tail}
 use Rattle.orc_tail.specs.declared.fault.FileFault.TheVariants as file
-use Rattle.orc_file.specs.FileRows.{FileIs}
+use Rattle.orc_file_reader.specs.FileRows.{FileIs}
 use Rattle.orc_merger.specs.Faults.{IsDeviceFault}
 use Rattle.orc_merger.specs.Outcomes.{IsAnswer}
 use Rattle.orc_merger.specs.declared.fault.MergeFault.{MergeFault}
@@ -20,8 +19,8 @@ use Rattle.orc_cli_output.specs.declared.fault.CliFault.{CliFault}
 use Rattle.orc_cli_output.specs.declared.fault.CliFault.TheVariants.{File}
 use Rattle.orc_cli_check.specs.Lines.{IsNotChecked, IsSourceOrMemory}
 use Rattle.orc_cli_rows.specs.Rows.{HaveJson}
-use Rattle.orc_cli_rows.specs.Printed.{Refuses}
-use Rattle.orc_cli_write.specs.Lines.{AreRowsOf}
+use Rattle.orc_cli_rows.specs.Printed.{RefusesPlace}
+use Rattle.orc_cli_write.specs.Lines.{AreRowsOfLines}
 use Rattle.orc_cli_write.specs.Writes.{IsOfWriter, RefusesWrite}
 use Rattle.orc_c.specs.Memory.{ToldAs, MergeToldAs}
 use Rattle.orc_c.specs.Refusals.{NotChecked, NotShown, NotPrinted, NotWritten, NotMerged}
@@ -77,7 +76,7 @@ not_shown bytes was told (inr (p, q)) source why only = record {
 }
 
 pub not_printed : (bytes printed : List ℕ) (from : Option (Bor (List ℕ))) (was told : CliFault) → ToldAs was told
-    → was ≢ File file.SourceFailed → Refuses bytes from (Some []) (Some printed) was
+    → was ≢ File file.SourceFailed → RefusesPlace bytes from (Some []) (Some printed) was
     → (from ≡ None → (tail : Tail) (rows : List Cell) → FileIs bytes tail rows → HaveJson tail.schema rows → IsOutsideFile was)
     → NotPrinted bytes from told
 not_printed bytes printed from was told (inl (p, q)) source why only = record {
@@ -99,7 +98,7 @@ not_printed bytes printed from was told (inr (p, q)) source why only = record {
 
 pub not_written : (schema : List ℕ) (options : Options) (lines written : List ℕ) (was told : CliFault) → ToldAs was told
     → RefusesWrite options schema lines (Some []) (Some written) was
-    → ((s : Shape) (rows : List Cell) → HasText s schema → AreRowsOf s lines rows → IsOfWriter was)
+    → ((s : Shape) (rows : List Cell) → HasText s schema → AreRowsOfLines s lines rows → IsOfWriter was)
     → NotWritten schema options lines told
 not_written schema options lines written was told (inl (p, q)) why only = record {
   was = was;
@@ -135,14 +134,6 @@ pub at_file : (bytes file old : List ℕ) (P : List ℕ → List ℕ → Type 0)
 at_file bytes file old P told empty said =
     let same : bytes ≡ file = cc in
     subst (λ (b : List ℕ). P b []) same (subst (λ (o : List ℕ). P bytes o) empty said)
-
-pub ok_more : {T E : Type 0} (r : Result T E) (P R : T → Type 0) → IfOk r P → ((x : T) → P x → R x) → IfOk r R
-ok_more (Ok x) P R p f = f x p
-ok_more (Err e) P R p f = tt
-
-pub err_more : {T E : Type 0} (r : Result T E) (P R : E → Type 0) → IfErr r P → ((e : E) → P e → R e) → IfErr r R
-err_more (Ok x) P R p f = tt
-err_more (Err e) P R p f = f e p
 
 -- sources that count no failure have none at any place
 pub no_failure : {X : Type 0} (xs : List X) (i : ℕ) → slice_index (map (λ (x : X). 0) xs) i ≡ 0

@@ -2,10 +2,10 @@
 use Rattle.std.specs.Prelude.{ℕ}
 use Rattle.orc_rle.specs.declared.fault.RunFault.{RunFault}
 use Rattle.orc_rle.specs.declared.fault.RunFault.TheVariants as run
-use Rattle.orc_types.specs.declared.fault.TypeFault.{TypeFault}
-use Rattle.orc_types.specs.declared.fault.TypeFault.TheVariants as type
-use Rattle.orc_types.specs.declared.json_fault.JsonFault.{JsonFault}
-use Rattle.orc_types.specs.declared.json_fault.JsonFault.TheVariants as json
+use Rattle.orc_trees.specs.declared.fault.TypeFault.{TypeFault}
+use Rattle.orc_trees.specs.declared.fault.TypeFault.TheVariants as type
+use Rattle.orc_json_rows.specs.declared.json_fault.JsonFault.{JsonFault}
+use Rattle.orc_json_rows.specs.declared.json_fault.JsonFault.TheVariants as json
 use Rattle.orc_tail.specs.declared.fault.FileFault.{FileFault}
 use Rattle.orc_tail.specs.declared.fault.FileFault.TheVariants as file
 use Rattle.orc_merger.specs.declared.fault.MergeFault.{MergeFault}

@@ -6,14 +6,14 @@ use Rattle.orc_rle.specs.declared.sign.Rle.{Rle}
 use Rattle.orc_rle.specs.declared.sign.Rle.TheVariants.{One, Two}
 use Rattle.orc_values.specs.Shapes.{Shape}
 use Rattle.orc_values.specs.Cells.{Cell}
-use Rattle.orc_types.specs.SchemaText.{HasText}
-use Rattle.orc_column_reader.specs.Stripe.{cell_limit}
-use Rattle.orc_stripe_writer.specs.declared.options.Options.{Options}
+use Rattle.orc_types.specs.Schemas.{HasText}
+use Rattle.orc_values.specs.Limits.{cell_limit}
+use Rattle.orc_row_batch.specs.declared.options.Options.{Options}
 use Rattle.orc_tail.specs.Tails.{IsTail}
 use Rattle.orc_tail.specs.declared.tail.Tail.{Tail}
 use Rattle.orc_tail.specs.declared.fault.FileFault.TheVariants as file
-use Rattle.orc_file.specs.FileRows.{FileIs}
-use Rattle.orc_file.specs.Writing.{IsWhole}
+use Rattle.orc_file_reader.specs.FileRows.{FileIs}
+use Rattle.orc_file_writer.specs.Writing.{WroteWholeFile}
 use Rattle.orc_merger.specs.Outcomes.{IsAnswer, WroteMerge}
 use Rattle.orc_merger.specs.declared.fault.MergeFault.{MergeFault}
 use Rattle.orc_merger.specs.declared.fault.MergeFault.TheVariants as merge
@@ -23,8 +23,8 @@ use Rattle.orc_cli_output.specs.declared.fault.CliFault.TheVariants.{File}
 use Rattle.orc_cli_check.specs.Lines.{IsNotChecked}
 use Rattle.orc_cli_show.specs.Show.{show_lines}
 use Rattle.orc_cli_rows.specs.Rows.{HaveJson}
-use Rattle.orc_cli_rows.specs.Printed.{IsAsked, ArePrinted, Refuses}
-use Rattle.orc_cli_write.specs.Lines.{AreRowsOf}
+use Rattle.orc_cli_rows.specs.Printed.{IsAsked, ArePrinted, RefusesPlace}
+use Rattle.orc_cli_write.specs.Lines.{AreRowsOfLines}
 use Rattle.orc_cli_write.specs.Writes.{RefusesWrite}
 use Rattle.orc_c.specs.Inputs.{cut}
 use Rattle.orc_c.specs.Memory.{ToldAs}
@@ -75,7 +75,7 @@ ArePrintedLines bytes from lines = (start : _) × IsAsked from start × ArePrint
 pub record NotPrinted (bytes : List ℕ) (from : Option (Bor (List ℕ))) (fault : CliFault) : Type 0 where
   pub was : CliFault
   pub printed : List ℕ
-  pub why : Refuses bytes from (Some []) (Some printed) was
+  pub why : RefusesPlace bytes from (Some []) (Some printed) was
   pub told : ToldAs was fault
   pub source : fault ≢ File file.SourceFailed
   pub only : from ≡ None → (tail : Tail) (rows : List Cell) → FileIs bytes tail rows → HaveJson tail.schema rows
@@ -114,8 +114,8 @@ IsOptions rle stride stripe_rows (Some options) =
 -- the whole file of the rows that the lines spell
 abbrev pub IsFileOf : List ℕ → Options → List ℕ → List ℕ → Type 0
 IsFileOf schema options lines bytes =
-    (s : Shape) × (rows : List Cell) × (tail : Tail) × HasText s schema × AreRowsOf s lines rows
-    × IsWhole options s tail (Some []) (Some bytes) rows
+    (s : Shape) × (rows : List Cell) × (tail : Tail) × HasText s schema × AreRowsOfLines s lines rows
+    × WroteWholeFile options s tail (Some []) (Some bytes) rows
 
 -- why no file of lines is written, in memory
 pub record NotWritten (schema : List ℕ) (options : Options) (lines : List ℕ) (fault : CliFault) : Type 0 where
@@ -123,7 +123,7 @@ pub record NotWritten (schema : List ℕ) (options : Options) (lines : List ℕ)
   pub written : List ℕ
   pub why : RefusesWrite options schema lines (Some []) (Some written) was
   pub told : ToldAs was fault
-  pub only : (s : Shape) (rows : List Cell) → HasText s schema → AreRowsOf s lines rows
+  pub only : (s : Shape) (rows : List Cell) → HasText s schema → AreRowsOfLines s lines rows
       → (fault ≡ File file.Limit) ⊎ IsWantOfMemory fault
 
 -- the same, or the schema isn't UTF-8

@@ -10,7 +10,7 @@ use crate::memory::told_of;
 use crate::putting::{put, tell};
 use orc_cli_check::check_to;
 use orc_cli_output::CliFault;
-use orc_file::SliceSource;
+use orc_io::SliceSource;
 use std::alloc::Global;
 
 /// The lines of a file's findings.

@@ -4,7 +4,7 @@ ghost use Rattle.orc_c.specs.Inputs.{cut};
 ghost use Rattle.orc_c.specs.Refusals.{NotCut};
 
 use crate::fault::{CallFault, Fault};
-use orc_file::{SliceSource, Source};
+use orc_io::{SliceSource, Source};
 use orc_merger::MergeFault;
 use std::alloc::Global;
 

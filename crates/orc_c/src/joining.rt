@@ -8,7 +8,7 @@ use crate::fault::Fault;
 use crate::inputs::sources_of;
 use crate::memory::merge_told_of;
 use crate::putting::{put, tell};
-use orc_file::{SliceSource, Source, VecSink};
+use orc_io::{SliceSource, Source, VecSink};
 use orc_merger::{MergeFault, merge};
 use std::alloc::Global;
 

@@ -2,8 +2,8 @@
 ghost use Rattle.orc_c.specs.Memory.{ToldAs, MergeToldAs};
 
 use orc_cli_output::CliFault;
-use orc_file::FileFault;
 use orc_merger::MergeFault;
+use orc_tail::FileFault;
 
 /// The fault that is told: a vector takes no more only for want of memory.
 pub(crate) fn told_of(fault: CliFault) -> CliFault

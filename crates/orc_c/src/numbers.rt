@@ -4,10 +4,11 @@ ghost use Rattle.orc_c.specs.Faults as spec;
 
 use crate::fault::CallFault;
 use orc_cli_output::CliFault;
-use orc_file::FileFault;
+use orc_json_rows::JsonFault;
 use orc_merger::MergeFault;
 use orc_rle::RunFault;
-use orc_types::{JsonFault, TypeFault};
+use orc_tail::FileFault;
+use orc_trees::TypeFault;
 
 /// The number of a fault of runs.
 fn run_number(fault: RunFault) -> u32

@@ -8,7 +8,7 @@ use crate::fault::{CallFault, Fault};
 use crate::memory::told_of;
 use crate::putting::{put, tell};
 use orc_cli_rows::rows_to;
-use orc_file::SliceSource;
+use orc_io::SliceSource;
 use std::alloc::Global;
 
 /// The lines of a file's rows, all of them or those from the place on that a text names.

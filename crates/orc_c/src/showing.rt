@@ -9,7 +9,7 @@ use crate::memory::told_of;
 use crate::putting::{put, tell};
 use orc_cli_output::CliFault;
 use orc_cli_show::show_to;
-use orc_file::SliceSource;
+use orc_io::SliceSource;
 use std::alloc::Global;
 
 /// The lines that show a file's tail.

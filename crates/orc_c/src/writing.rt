@@ -9,9 +9,9 @@ use crate::memory::told_of;
 use crate::putting::{put, tell};
 use orc_cli_output::CliFault;
 use orc_cli_write::write_from;
-use orc_file::VecSink;
+use orc_io::VecSink;
 use orc_rle::Rle;
-use orc_stripe::Options;
+use orc_row_batch::Options;
 use std::alloc::Global;
 
 /// The file of the rows that lines spell.

@@ -10,21 +10,21 @@ use Rattle.orc_values.specs.Shapes.{Shape, width}
 use Rattle.orc_stats.specs.declared.stat.Stat.{Stat}
 use Rattle.orc_column_reader.specs.Faults.{RowsFault}
 use Rattle.orc_column_reader.specs.Stripe.{HasFooter, IsStripe, columns_of}
-use Rattle.orc_stripe.specs.Opened.{Opened}
-use Rattle.orc_stripe.specs.Opening as opening
-use Rattle.orc_stripe.proofs.OneStripe.{by_footer}
-use Rattle.orc_tail.specs.Stripes.{stripe_at, most_stripes}
-use Rattle.orc_file.specs.FileRows.{stripe_bytes, joined, AreOfStripes, HasRows, FileIs, IsNoStripe, StripeRefused, FirstRefused, cut_rows}
-use Rattle.orc_tail.specs.Tails.{IsTail, OpenFault, ReadFault, IsOfTail, tail_tests}
+use Rattle.orc_stripe_reader.specs.Opened.{Opened}
+use Rattle.orc_stripe_reader.specs.Opening as opening
+use Rattle.orc_stripe_reader.proofs.OneStripe.{by_footer}
+use Rattle.orc_tail.specs.Stripes.{stripe_at, most_stripes, stripe_bytes}
+use Rattle.orc_file_reader.specs.FileRows.{rows_together, AreOfStripes, HasRows, FileIs, IsNoStripe, StripeRefused, FirstRefused, cut_rows}
+use Rattle.orc_tail.specs.Tails.{IsTail, TailOpenFault, ReadFault, IsOfTail, tail_tests}
 use Rattle.orc_tail.specs.declared.tail.Tail.{Tail}
 use Rattle.orc_tail.specs.declared.fault.FileFault.{FileFault}
 use Rattle.orc_tail.specs.declared.fault.FileFault.TheVariants.{Stripe, SourceFailed, OutOfMemory}
-use Rattle.orc_column_reader.specs.declared.fault.StripeFault.{StripeFault}
-use Rattle.orc_column_reader.specs.declared.fault.StripeFault.TheVariants as stripe
-use Rattle.orc_file.proofs.RowLemmas.{one_file, no_file, parts_cut}
+use Rattle.orc_directory.specs.declared.fault.StripeFault.{StripeFault}
+use Rattle.orc_directory.specs.declared.fault.StripeFault.TheVariants as stripe
+use Rattle.orc_file_reader.proofs.RowLemmas.{one_file, no_file, parts_cut}
 use Rattle.orc_check.specs.declared.finding.Finding.{Finding}
-use Rattle.orc_check.specs.Findings.{OfEach, OfStripe, OfStripes, OfFile, Findings, Adds, stripe_told, rows_at}
-use Rattle.orc_check.specs.Checking.{HaveKnown, AreKnown, IsChecked, AreOfSchema, AreOwn, CheckFault, IsOfStripe, IsOfStripes, IsOfCheck}
+use Rattle.orc_check.specs.Findings.{OfEach, OfStripe, OfStripes, OfFile, Findings, AddsFindings, stripe_told, rows_at}
+use Rattle.orc_check.specs.Checking.{HaveKnown, AreKnown, IsChecked, AreOfSchema, AreOwnStats, CheckFault, IsOfStripe, IsOfStripes, IsOfCheck}
 use Rattle.orc_check.proofs.Checked.{AreChecked, text_at}
 
 get_front : {X : Type 0} (xs : List X) (x d : X) (k : ℕ) → k < length xs → get_or (xs ++ x ∷ []) k d ≡ get_or xs k d
@@ -124,16 +124,16 @@ module _ (tail : Tail) (texts : List (List ℕ)) (parts : List (List Cell)) (fou
       → IsStripe tail.schema (stripe_at tail.stripes k) (stripe_bytes (stripe_at tail.stripes k) bytes) (rows_at parts k)
   stripes_read n le c t k lt = subst (λ (b : List ℕ). IsStripe tail.schema (stripe_at tail.stripes k) b (rows_at parts k)) (t k lt) (c.stripes k lt)
 
-  pub all_found : (all : List Finding) → IsTail bytes tail → AreChecked tail (length tail.stripes) texts parts found own → AreTold (Some bytes) tail (length tail.stripes) texts → Adds (OfFile tail parts) found all
+  pub all_found : (all : List Finding) → IsTail bytes tail → AreChecked tail (length tail.stripes) texts parts found own → AreTold (Some bytes) tail (length tail.stripes) texts → AddsFindings (OfFile tail parts) found all
       → (rows : List Cell) × FileIs bytes tail rows × Findings bytes tail rows all
   all_found all is c t more =
       let there : AreOfStripes tail.schema bytes tail.stripes parts = stripes_are tail.schema bytes tail.stripes parts c.many (stripes_read (length tail.stripes) (omega arith) c t) in
-      let has : HasRows tail.schema bytes tail.stripes (joined parts) = record { parts = parts; stripes = there; rows_are = refl } in
-      let cut : cut_rows tail.stripes (joined parts) ≡ parts = parts_cut tail.schema bytes tail.stripes (joined parts) has in
+      let has : HasRows tail.schema bytes tail.stripes (rows_together parts) = record { parts = parts; stripes = there; rows_are = refl } in
+      let cut : cut_rows tail.stripes (rows_together parts) ≡ parts = parts_cut tail.schema bytes tail.stripes (rows_together parts) has in
       let stripes : OfStripes bytes tail parts found
       = each_so (λ k. OfStripe tail k (text_at texts k) (rows_at parts k)) (λ k. OfStripe tail k (stripe_bytes (stripe_at tail.stripes k) bytes) (rows_at parts k)) (length tail.stripes) found
       (λ k lt xs f. subst (λ (b : List ℕ). OfStripe tail k b (rows_at parts k) xs) (t k lt) f) c.found_are in (
-        joined parts,
+        rows_together parts,
         record { tail_is = is; has_rows = has },
         (found, more.0, subst (λ (p : List (List Cell)). OfStripes bytes tail p found) (sym cut) stripes, subst (λ (p : List (List Cell)). OfFile tail p more.0) (sym cut) more.1, more.2),
       )
@@ -161,7 +161,7 @@ stripe_read (Some all) s info n bytes fault read (inr h) = inr (inr (h.0, h.1, h
 
 -- bytes that have no view have no rows
 pub no_view : (s : Shape) (info : StripeInfo) (n : ℕ) (bytes : List ℕ) (fault : FileFault) → ((footer : StripeFooter) → HasFooter s info bytes footer → fault ≡ OutOfMemory)
-    → (fault ≡ OutOfMemory) ⊎ ((why : StripeFault) × (fault ≡ Stripe n why) × (why ≢ stripe.OutOfMemory) × opening.OpenFault s info bytes why) → NoRows s info n bytes fault
+    → (fault ≡ OutOfMemory) ⊎ ((why : StripeFault) × (fault ≡ Stripe n why) × (why ≢ stripe.OutOfMemory) × opening.StripeOpenFault s info bytes why) → NoRows s info n bytes fault
 no_view s info n bytes fault only (inl memory) = inl memory
 no_view s info n bytes fault only (inr h) =
     inr (h.0, h.1, h.2, record { none = λ rows is. let wrong : Stripe n h.0 ≡ OutOfMemory = sym h.1 ∙ only is.footer is.has_footer in cc; reason = inl h.3 })
@@ -187,7 +187,7 @@ stripe_refused (Some bytes) tail n texts parts found own fault lt c t (inr (inr 
     inr (inr (refused_at tail.schema bytes tail.stripes parts 0 n fault lt (stripes_read tail texts parts found own bytes n (omega (arith, lt)) c t)
     (subst (λ (j : ℕ). StripeRefused tail.schema bytes j (stripe_at tail.stripes n) fault) z h)))
 
-pub tail_refused : (told : Option (List ℕ)) (fault : FileFault) → ReadFault told fault (λ bytes. OpenFault bytes fault) → ReadFault told fault (λ bytes. CheckFault bytes fault)
+pub tail_refused : (told : Option (List ℕ)) (fault : FileFault) → ReadFault told fault (λ bytes. TailOpenFault bytes fault) → ReadFault told fault (λ bytes. CheckFault bytes fault)
 tail_refused told fault (inl memory) = inl memory
 tail_refused told fault (inr (inl source)) = inr (inl source)
 tail_refused None fault (inr (inr h)) = inr (inr tt)
@@ -202,13 +202,13 @@ first_refused (Some bytes) tail fault is (inr (inr h)) = inr (inr (inr (tail, is
 
 -- the file's columns, too
 pub file_found : (told : Option (List ℕ)) (tail : Tail) (n : ℕ) (texts : List (List ℕ)) (parts : List (List Cell)) (found all : List Finding) (own : List (List Stat)) → n ≡ length tail.stripes
-    → AreChecked tail n texts parts found own → AreTold told tail n texts → Adds (OfFile tail parts) found all
+    → AreChecked tail n texts parts found own → AreTold told tail n texts → AddsFindings (OfFile tail parts) found all
     → IfSome told (λ bytes. IsTail bytes tail → (rows : List Cell) × FileIs bytes tail rows × Findings bytes tail rows all)
 file_found None tail n texts parts found all own e c t more = tt
 file_found (Some bytes) tail n texts parts found all own e c t more = λ is.
     all_found tail texts parts found own bytes all is (subst (λ (k : ℕ). AreChecked tail k texts parts found own) e c) (subst (λ (k : ℕ). AreTold (Some bytes) tail k texts) e t) more
 
-pub are_own : (tail : Tail) (n : ℕ) (texts : List (List ℕ)) (parts : List (List Cell)) (found : List Finding) (own : List (List Stat)) → n ≤ most_stripes → AreChecked tail n texts parts found own → AreOwn tail.schema tail.stripe_stats parts own
+pub are_own : (tail : Tail) (n : ℕ) (texts : List (List ℕ)) (parts : List (List Cell)) (found : List Finding) (own : List (List Stat)) → n ≤ most_stripes → AreChecked tail n texts parts found own → AreOwnStats tail.schema tail.stripe_stats parts own
 are_own tail n texts parts found own few c = record { fit = c.fit; few = omega (arith, few, c.many); known = c.known }
 
 -- ---- what it comes to

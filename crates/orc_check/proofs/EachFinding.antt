@@ -6,15 +6,15 @@ use Rattle.orc_values.specs.Cells.{Cell}
 use Rattle.orc_values.specs.Shapes.{width}
 use Rattle.orc_stats.specs.declared.stat.Stat.{Stat}
 use Rattle.orc_column_reader.specs.Stripe.{HasFooter}
-use Rattle.orc_stripe.specs.Opened.{Opened}
-use Rattle.orc_stripe.proofs.OneStripe.{one_footer}
+use Rattle.orc_stripe_reader.specs.Opened.{Opened}
+use Rattle.orc_stripe_reader.proofs.OneStripe.{one_footer}
 use Rattle.orc_tail.specs.Stripes.{stripe_at}
-use Rattle.orc_file.specs.FileRows.{opened_stripe, cut_rows, FileIs}
+use Rattle.orc_file_reader.specs.FileRows.{opened_stripe, cut_rows, FileIs}
 use Rattle.orc_tail.specs.declared.tail.Tail.{Tail}
 use Rattle.orc_check.specs.declared.finding.Finding.{Finding}
 use Rattle.orc_check.specs.declared.finding.Finding.TheVariants.{StripeStatistic, IndexEntries, IndexStatistic, IndexPosition, FileStatistic}
 use Rattle.orc_check.specs.Findings.{Unless, Both, OfEach, IndexedColumn, HasRightStatistic, HasRightPositions, OfGroup, IsIndexedColumn, OfIndex, OfColumn, OfStripe, OfStripes, OfFile, Findings, TellsStripe, TellsFile, stripe_told, rows_at}
-use Rattle.orc_check.specs.Meanings.{text_of, HasColumn, IsColumnOf, IsSo}
+use Rattle.orc_check.specs.Meanings.{numbered_stripe_bytes, HasColumn, IsColumnOf, IsSo}
 use Rattle.orc_check.proofs.CheckLemmas.{below_or}
 use Rattle.orc_check.proofs.OneList.{one_column}
 use Rattle.orc_check.proofs.NoFinding.{stripe_is}
@@ -144,20 +144,20 @@ module _ (bytes : List ℕ) (tail : Tail) (rows : List Cell) (is : FileIs bytes 
 
   -- the stripe with this number as it is opened
   abbrev view_of : ℕ → StripeFooter → Opened
-  view_of n footer = opened_stripe tail n (text_of bytes tail n) footer
+  view_of n footer = opened_stripe tail n (numbered_stripe_bytes bytes tail n) footer
 
   record StripeSays (n : ℕ) (f : Finding) : Type 0 where
     footer : StripeFooter
-    has_footer : HasFooter tail.schema (stripe_at tail.stripes n) (text_of bytes tail n) footer
+    has_footer : HasFooter tail.schema (stripe_at tail.stripes n) (numbered_stripe_bytes bytes tail n) footer
     one : OneBelow (λ c. ColumnSays (view_of n footer) n (rows_at parts n) c (stripe_told tail n)) (width tail.schema) f
 
-  stripe_says : (n : ℕ) → Says (OfStripe tail n (text_of bytes tail n) (rows_at parts n)) (StripeSays n)
+  stripe_says : (n : ℕ) → Says (OfStripe tail n (numbered_stripe_bytes bytes tail n) (rows_at parts n)) (StripeSays n)
   stripe_says n found h f =
       let e = each_says (OfColumn (view_of n h.0) (stripe_told tail n) n (rows_at parts n)) (λ c. ColumnSays (view_of n h.0) n (rows_at parts n) c (stripe_told tail n)) (width tail.schema)
       (λ c lt. column_says (view_of n h.0) n (rows_at parts n) c (stripe_told tail n)) found h.2 f in (
         λ x. record { footer = h.0; has_footer = h.1; one = e.0 x },
         λ w. e.1 (subst (λ (t : StripeFooter). OneBelow (λ c. ColumnSays (view_of n t) n (rows_at parts n) c (stripe_told tail n)) (width tail.schema) f)
-            (one_footer tail.schema (stripe_at tail.stripes n) (text_of bytes tail n) w.footer h.0 w.has_footer h.1) w.one),
+            (one_footer tail.schema (stripe_at tail.stripes n) (numbered_stripe_bytes bytes tail n) w.footer h.0 w.has_footer h.1) w.one),
       )
 
   abbrev FileSays : Finding → Type 0
@@ -169,13 +169,13 @@ module _ (bytes : List ℕ) (tail : Tail) (rows : List Cell) (is : FileIs bytes 
   findings_say : Says (Findings bytes tail rows) FindingsSay
   findings_say =
       both_says (OfStripes bytes tail parts) (OfFile tail parts) (OneBelow StripeSays (length tail.stripes)) FileSays
-      (each_says (λ n. OfStripe tail n (text_of bytes tail n) (rows_at parts n)) StripeSays (length tail.stripes) (λ n lt. stripe_says n))
+      (each_says (λ n. OfStripe tail n (numbered_stripe_bytes bytes tail n) (rows_at parts n)) StripeSays (length tail.stripes) (λ n lt. stripe_says n))
       (each_says (λ c. Unless (TellsFile tail parts c) (FileStatistic c)) (λ c f. (f ≡ FileStatistic c) × (TellsFile tail parts c → ⊥)) (width tail.schema)
       (λ c lt. unless_says (TellsFile tail parts c) (FileStatistic c)))
 
   -- ---- from what is said to what is so
 
-  group_so : (n c : ℕ) (f : Finding) (footer : StripeFooter) → HasColumn tail n c → HasFooter tail.schema (stripe_at tail.stripes n) (text_of bytes tail n) footer → 0 < tail.stride
+  group_so : (n c : ℕ) (f : Finding) (footer : StripeFooter) → HasColumn tail n c → HasFooter tail.schema (stripe_at tail.stripes n) (numbered_stripe_bytes bytes tail n) footer → 0 < tail.stride
       → (h : GroupsSay (view_of n footer) n (rows_at parts n) c f) → GroupSays (view_of n footer) n (rows_at parts n) c h.x h.one.k f → IsSo bytes tail parts f
   group_so n c f footer there has some h (inl w) = subst (IsSo bytes tail parts) (sym w.0) (
     h.x,
@@ -190,14 +190,14 @@ module _ (bytes : List ℕ) (tail : Tail) (rows : List Cell) (is : FileIs bytes 
     w.1,
   )
 
-  column_so : (n c : ℕ) (f : Finding) (footer : StripeFooter) → HasColumn tail n c → HasFooter tail.schema (stripe_at tail.stripes n) (text_of bytes tail n) footer
+  column_so : (n c : ℕ) (f : Finding) (footer : StripeFooter) → HasColumn tail n c → HasFooter tail.schema (stripe_at tail.stripes n) (numbered_stripe_bytes bytes tail n) footer
       → ColumnSays (view_of n footer) n (rows_at parts n) c (stripe_told tail n) f → IsSo bytes tail parts f
   column_so n c f footer there has (inl w) = subst (IsSo bytes tail parts) (sym w.0) (there, w.1)
   column_so n c f footer there has (inr (some, inl w)) = subst (IsSo bytes tail parts) (sym w.0) (
     there,
     some,
     λ x h.
-        let same = one_footer tail.schema (stripe_at tail.stripes n) (text_of bytes tail n) h.footer footer h.has_footer has in
+        let same = one_footer tail.schema (stripe_at tail.stripes n) (numbered_stripe_bytes bytes tail n) h.footer footer h.has_footer has in
         w.1 x (subst (λ (t : StripeFooter). IsIndexedColumn (view_of n t) (rows_at parts n) c x) same h.column),
   )
   column_so n c f footer there has (inr (some, inr h)) = group_so n c f footer there has some h h.one.holds
@@ -211,7 +211,7 @@ module _ (bytes : List ℕ) (tail : Tail) (rows : List Cell) (is : FileIs bytes 
 
   -- ---- and back
 
-  column_said : (n c : ℕ) (f : Finding) (footer : StripeFooter) → HasColumn tail n c → HasFooter tail.schema (stripe_at tail.stripes n) (text_of bytes tail n) footer
+  column_said : (n c : ℕ) (f : Finding) (footer : StripeFooter) → HasColumn tail n c → HasFooter tail.schema (stripe_at tail.stripes n) (numbered_stripe_bytes bytes tail n) footer
       → ColumnSays (view_of n footer) n (rows_at parts n) c (stripe_told tail n) f → FindingsSay f
   column_said n c f footer there has says =
       inl (record { k = n; below = there.stripe; holds = record { footer = footer; has_footer = has; one = record { k = c; below = there.column; holds = says } } })

@@ -6,12 +6,12 @@ use Rattle.orc_wire.specs.Kinds as kinds
 use Rattle.orc_wire.specs.Members.{Joined}
 use Rattle.orc_wire.specs.Messages.{row_index, row_index_entry}
 use Rattle.orc_wire.specs.Spells.{Spells}
-use Rattle.orc_wire.specs.SpellsLaws.{text_some}
+use Rattle.orc_wire.specs.laws.SpellsLaws.{text_some}
 use Rattle.orc_wire.specs.declared.row_index.RowIndexMsg.{RowIndexMsg}
-use Rattle.orc_column_reader.specs.Directory.{slice}
-use Rattle.orc_stripe.specs.Opened.{Opened}
-use Rattle.orc_stripe.specs.RowIndexes.{HasIndex, IsWhole}
-use Rattle.orc_stripe_writer.specs.Groups.{group_count}
+use Rattle.orc_directory.specs.Directory.{slice}
+use Rattle.orc_stripe_reader.specs.Opened.{Opened}
+use Rattle.orc_stripe_reader.specs.RowIndexes.{HasIndex, HasEachGroup}
+use Rattle.orc_row_groups.specs.Groups.{group_count}
 use Rattle.orc_check.specs.Needed.{HasRoom, MayBeWhole}
 
 one_at_most : {V : Type 0} (p : Option V) → length (option_to_list p) ≤ 1
@@ -32,7 +32,7 @@ pub entries_few : (bytes : List ℕ) (message : RowIndexMsg) → Spells row_inde
 entries_few bytes message h = values_few (kinds.message row_index_entry 0 1).gives 0 h.fields bytes message.entries h.are h.says
 
 -- an index with an entry for each group has bytes for them
-pub whole_has_room : (view : Opened) (c rows : ℕ) (message : RowIndexMsg) → 0 < view.stride → rows ≡ view.info.number_of_rows → HasIndex view.footer view.bytes c message → IsWhole view rows message → MayBeWhole view c
+pub whole_has_room : (view : Opened) (c rows : ℕ) (message : RowIndexMsg) → 0 < view.stride → rows ≡ view.info.number_of_rows → HasIndex view.footer view.bytes c message → HasEachGroup view rows message → MayBeWhole view c
 whole_has_room view c rows message some all has whole =
     let few = entries_few (slice c 6 view.footer.streams view.bytes) message has.1 in
     let groups : group_count view.stride view.info.number_of_rows ≡ length message.entries = ap (group_count view.stride) (sym all) ∙ sym whole in

@@ -4,7 +4,7 @@ use Rattle.std.proofs.Common.{◌≡◌, ◌∙◌, ℕ, zero, suc, ◌*◌, ◌
 use Rattle.std.proofs.lemmas.List.{length-map}
 use Rattle.orc_values.specs.Cells.{Cell}
 use Rattle.orc_values.specs.Shapes.{Shape}
-use Rattle.orc_stripe_writer.specs.Groups.{group_count, starts, bounds_of, cells_before}
+use Rattle.orc_row_groups.specs.Groups.{group_count, starts_of_groups, bounds_of, cells_before}
 use Rattle.std.proofs.lemmas.List.FromFn.{length-map-range_with_len}
 
 -- ---- answers
@@ -20,8 +20,8 @@ on_ok_so (Err e) f h = tt
 -- ---- bounds
 
 -- a column has a bound for each group
-pub bounds_long : (s : Shape) (c stride : ℕ) (rows : List Cell) → length (bounds_of s c rows (starts stride (length rows))) ≡ group_count stride (length rows)
-bounds_long s c stride rows = length-map (starts stride (length rows)) (cells_before s c rows) ∙ length-map-range_with_len (λ n. n * stride) 0 (group_count stride (length rows))
+pub bounds_long : (s : Shape) (c stride : ℕ) (rows : List Cell) → length (bounds_of s c rows (starts_of_groups stride (length rows))) ≡ group_count stride (length rows)
+bounds_long s c stride rows = length-map (starts_of_groups stride (length rows)) (cells_before s c rows) ∙ length-map-range_with_len (λ n. n * stride) 0 (group_count stride (length rows))
 
 -- an element that is there, whatever stands where there is none
 pub get_or_any : {X : Type 0} (xs : List X) (i : ℕ) (a b : X) → i < length xs → get_or xs i a ≡ get_or xs i b

@@ -1,8 +1,6 @@
 -- Where row indexes are right, each stripe starts at each of its groups.
-use Rattle.std.proofs.Common.{◌≡◌, ◌∙◌, ℕ, zero, suc, ◌*◌, ◌<◌, Bool, true, List, [], ◌∷◌, length, map, slice_get, Some, refl, subst, arith}
-use Rattle.std.proofs.lemmas.Grind.{div_ceil_times}
+use Rattle.std.proofs.Common.{◌≡◌, ◌∙◌, ℕ, zero, suc, ◌<◌, Bool, true, List, [], ◌∷◌, length, map, slice_get, Some, refl, subst, arith}
 use Rattle.std.proofs.lemmas.List.{length-map}
-use Rattle.std.proofs.Math.Nat.{lt_of_mul-lt-mul_right}
 use Rattle.orc_wire.specs.declared.row_index.RowIndexEntry.{RowIndexEntry}
 use Rattle.orc_wire.specs.declared.row_index.RowIndexMsg.{RowIndexMsg}
 use Rattle.orc_wire.specs.declared.stripe_footer.StripeFooter.{StripeFooter}
@@ -11,22 +9,19 @@ use Rattle.orc_values.specs.Columns.{cells}
 use Rattle.orc_values.specs.Shapes.{width, shape_at}
 use Rattle.orc_column_reader.specs.Stripe.{SpellRows, columns_of}
 use Rattle.orc_row_index_check.specs.Decided.{Decides, AreDecided}
-use Rattle.orc_stripe_writer.specs.Groups.{group_count, starts, bounds_of}
-use Rattle.orc_stripe.specs.Opened.{Opened}
-use Rattle.orc_stripe.specs.RowIndexes.{HasIndex, IsWhole, ArePositionsDecided}
-use Rattle.orc_stripe.specs.GroupCursors.{HasGroup, HasRightEntry, StartsGroup}
-use Rattle.orc_stripe.proofs.OneStripe.{one_footer, by_footer}
-use Rattle.orc_tail.specs.Stripes.{stripe_at}
-use Rattle.orc_file.specs.FileRows.{stripe_bytes, opened_stripe, cut_rows, FileIs}
+use Rattle.orc_row_groups.specs.Groups.{starts_of_groups, bounds_of}
+use Rattle.orc_stripe_reader.specs.Opened.{Opened}
+use Rattle.orc_stripe_reader.specs.RowIndexes.{HasIndex, HasEachGroup, ArePositionsDecided}
+use Rattle.orc_stripe_reader.specs.GroupCursors.{HasGroup, HasRightEntry, StartsGroup}
+use Rattle.orc_stripe_reader.proofs.OneStripe.{one_footer, by_footer}
+use Rattle.orc_tail.specs.Stripes.{stripe_at, stripe_bytes}
+use Rattle.orc_file_reader.specs.FileRows.{opened_stripe, cut_rows, FileIs}
 use Rattle.orc_tail.specs.declared.tail.Tail.{Tail}
 use Rattle.orc_check.specs.Findings.{rows_at}
 use Rattle.orc_check.specs.RightIndexes.{HasAgreeingIndex, HasIndexes, StartsAtGroups}
 use Rattle.orc_check.proofs.GroupBounds.{bounds_long}
 use Rattle.orc_check.proofs.NoFinding.{stripe_is}
-
--- a group that begins before the last row is one of the groups
-group_there : (stride rows group : ℕ) → 0 < stride → group * stride < rows → group < group_count stride rows
-group_there stride rows group some before = lt_of_mul-lt-mul_right stride (omega (arith, before, (div_ceil_times rows stride some).0))
+use Rattle.orc_row_groups.proofs.BoundLemmas.{group_there}
 
 -- ---- every entry's positions are right
 
@@ -53,7 +48,7 @@ StartsThere =
 abbrev pub EntryThere : Type 0
 EntryThere =
     (view : Opened) (rows : List Cell) (c group : ℕ) (message : RowIndexMsg) (right : List Bool) → length rows ≡ view.info.number_of_rows → HasGroup view group
-    → HasIndex view.footer view.bytes c message → IsWhole view (length rows) message → ArePositionsDecided view c rows message right → slice_get right group ≡ Some true
+    → HasIndex view.footer view.bytes c message → HasEachGroup view (length rows) message → ArePositionsDecided view c rows message right → slice_get right group ≡ Some true
     → HasRightEntry view rows c group
 
 entry_found : EntryThere → (view : Opened) (rows : List Cell) (c group : ℕ) → length rows ≡ view.info.number_of_rows → HasGroup view group → HasAgreeingIndex view.stride view.schema rows view.footer view.bytes c
@@ -61,12 +56,12 @@ entry_found : EntryThere → (view : Opened) (rows : List Cell) (c group : ℕ) 
 entry_found entry view rows c group counted has right =
     let r = right.1 in
     let es : List RowIndexEntry = r.message.entries in
-    let whole : IsWhole view (length rows) r.message = r.counted ∙ bounds_long view.schema c view.stride rows in
+    let whole : HasEachGroup view (length rows) r.message = r.counted ∙ bounds_long view.schema c view.stride rows in
     let less : group < length es = (let k = group_there view.stride (length rows) group has.indexed (omega (arith, has.there, counted)) in omega (arith, k, whole)) in
     let s = shape_at view.schema c in
     let x = columns_of view.footer view.bytes c in
     let cs = cells view.schema c rows in
-    let bounds = bounds_of view.schema c rows (starts view.stride (length rows)) in
+    let bounds = bounds_of view.schema c rows (starts_of_groups view.stride (length rows)) in
     let decided : AreDecided s x cs bounds es (all_right es) = record {
       counted = length-map es (λ (e : RowIndexEntry). true);
       each = λ g e b at told. subst (λ (t : Bool). Decides s x cs bounds g e.positions t) (right_alone es g b told) (r.positions g e at);

@@ -11,7 +11,6 @@ mod IndexFound
 mod OneList
 mod EachFinding
 pub mod NoFinding
-pub mod WrittenIndexes
 mod GroupsFound
 mod OwnCells
 mod WrittenFound

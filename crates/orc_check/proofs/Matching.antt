@@ -11,17 +11,20 @@ use Rattle.orc_values.specs.Shapes.{Shape}
 use Rattle.orc_stats.specs.Messages.{message_of}
 use Rattle.orc_stats.specs.declared.stat.Stat.{Stat}
 use Rattle.orc_column_reader.specs.Starting.{AreStreams}
-use Rattle.orc_column_reader.specs.Stripe.{Streams, cell_limit}
+use Rattle.orc_column_reader.specs.Stripe.{Streams}
+use Rattle.orc_values.specs.Limits.{cell_limit}
 use Rattle.orc_column_reader.specs.declared.starting.ColumnStreams.{ColumnStreams}
-use Rattle.orc_row_index.specs.Bounds.{bound_at, before_group}
+use Rattle.orc_row_groups.specs.Bounds.{bound_at, before_group}
 use Rattle.orc_row_index.specs.EntryText.{IsEntryText}
-use Rattle.orc_row_index.specs.Positions.{Adds}
+use Rattle.orc_row_index.specs.Positions.{AddsPositions}
 use Rattle.orc_row_index.specs.RowIndex.{AreEntries, IsWrittenIndex}
-use Rattle.orc_row_index.specs.Walking.{runs, lent_bytes, AreCounted, HavePositions, WalkedBefore}
+use Rattle.orc_row_index.specs.Walking.{runs, lent_bytes, HavePositions, WalkedBefore}
+use Rattle.orc_row_groups.specs.Counts.{AreCounted}
 use Rattle.orc_row_index.specs.declared.placed.PlacedStreams.{PlacedStreams}
 use Rattle.orc_row_index.specs.declared.walk.Walk.{Walk}
 use Rattle.orc_row_index.proofs.EntryTexts.{texts_join, bounded_join, index_spelled}
-use Rattle.orc_row_index.proofs.Groups.{bound_up, front_there, walked_to, written_in, entries_more, Placed, Spelled}
+use Rattle.orc_row_index.proofs.Groups.{front_there, walked_to, written_in, entries_more, Placed, Spelled}
+use Rattle.orc_row_groups.proofs.Groups.{bound_up}
 use Rattle.orc_row_index.proofs.WrittenIndex.{entries_whole}
 use Rattle.orc_column_walk.specs.declared.found.GroupFound.{GroupFound}
 use Rattle.orc_check.specs.OwnGroups.{AreGroupsOf}
@@ -72,7 +75,7 @@ module _ (s : Shape) (streams : ColumnStreams) (groups : List GroupFound) (place
     next_ready m h = (before_group h.2.0 h.2.1 n, ready h.0 h.2.0 h.2.1 h.1 h.2.2 (m h.0 h.2.0 h.2.1 h.1 h.2.2))
 
     pub next_matched : (old text rest : List ℕ) (next : Walk) → Matches s streams groups placed n bytes mid walk → old ≡ [] → mid ≡ text ++ rest
-        → ((before : List Cell) → AreCounted group.before before → HavePositions (runs placed.present) (lent_bytes placed.content) (runs placed.own) before → Adds (IsEntryText (runs placed.present) (lent_bytes placed.content) (runs placed.own) before group.stat) old text)
+        → ((before : List Cell) → AreCounted group.before before → HavePositions (runs placed.present) (lent_bytes placed.content) (runs placed.own) before → AddsPositions (IsEntryText (runs placed.present) (lent_bytes placed.content) (runs placed.own) before group.stat) old text)
         → ((before : List Cell) → AreCounted group.before before → WalkedBefore (runs placed.present) (runs placed.own) next before)
         → Matches s streams groups placed (n + 1) bytes rest next
     next_matched old text rest next all none split put walked x cells bounds is h =

@@ -1,6 +1,6 @@
 -- The columns whose groups are needed, of a type and of its parts.
 use Rattle.std.proofs.Common.{ℕ, ◌<◌, ◌≤◌, arith}
-use Rattle.orc_stripe.specs.Opened.{Opened}
+use Rattle.orc_stripe_reader.specs.Opened.{Opened}
 use Rattle.orc_check.specs.Needed.{MayBeWhole, NeedGroups}
 
 -- what a part needs, the whole needs

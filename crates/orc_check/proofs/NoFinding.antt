@@ -15,21 +15,21 @@ use Rattle.orc_stats.specs.Messages.{stat_read}
 use Rattle.orc_stats.specs.Statistics.{stat}
 use Rattle.orc_stats.proofs.Agreed.{same_agrees}
 use Rattle.orc_column_reader.specs.Stripe.{HasFooter, IsStripe}
-use Rattle.orc_row_index.specs.Bounds.{before_group, group_of}
+use Rattle.orc_row_groups.specs.Bounds.{before_group, group_of}
 use Rattle.orc_row_index.specs.Positions.{AreReadPositions}
-use Rattle.orc_row_index.specs.RowIndex.{SaysStat}
-use Rattle.orc_stripe_writer.specs.Groups.{starts, bounds_of}
-use Rattle.orc_stripe_writer.specs.WrittenStripe.{HasRightIndex, column_stat}
-use Rattle.orc_stripe.specs.Opened.{Opened}
-use Rattle.orc_tail.specs.Stripes.{stripe_at}
-use Rattle.orc_file.specs.FileRows.{stripe_bytes, opened_stripe, cut_rows, AreOfStripes, FileIs}
-use Rattle.orc_file.specs.Honest.{AgreeStats, AreHonest, Honest, HasWholeStats, known_whole_of}
+use Rattle.orc_row_index.specs.RowIndex.{SaysStat, HasRightIndex}
+use Rattle.orc_row_groups.specs.Groups.{starts_of_groups, bounds_of}
+use Rattle.orc_stats.specs.ColumnStatistics.{column_stat}
+use Rattle.orc_stripe_reader.specs.Opened.{Opened}
+use Rattle.orc_tail.specs.Stripes.{stripe_at, stripe_bytes}
+use Rattle.orc_file_reader.specs.FileRows.{opened_stripe, cut_rows, AreOfStripes, FileIs}
+use Rattle.orc_file_reader.specs.Honest.{AgreeStats, AreHonest, Honest, HasWholeStats, known_whole_of}
 use Rattle.orc_tail.specs.declared.tail.Tail.{Tail}
-use Rattle.orc_file.proofs.RowLemmas.{rows_cut}
+use Rattle.orc_file_reader.proofs.RowLemmas.{rows_cut}
 use Rattle.orc_check.specs.declared.finding.Finding.{Finding}
 use Rattle.orc_check.specs.declared.finding.Finding.TheVariants.{StripeStatistic, IndexStatistic, IndexPosition, FileStatistic}
 use Rattle.orc_check.specs.Agreeing.{Tells}
-use Rattle.orc_check.specs.Findings.{Unless, Both, OfEach, IndexedColumn, HasRightStatistic, HasRightPositions, OfGroup, OfGroups, column_with, OfIndex, OfColumn, OfStripe, OfStripes, OfFile, Findings, TellsStripe, TellsFile, TellsWhole, TellsGroup, entry_at, stripe_told, rows_at}
+use Rattle.orc_check.specs.Findings.{Unless, Both, OfEach, IndexedColumn, HasRightStatistic, HasRightPositions, OfGroup, OfGroups, column_with, OfIndex, OfColumn, OfStripe, OfStripes, OfFile, Findings, TellsStripe, TellsFile, TellsWhole, TellsGroup, entry_of_group, stripe_told, rows_at}
 use Rattle.orc_check.specs.RightIndexes.{HasAgreeingIndex, HasIndexes}
 use Rattle.orc_check.proofs.CheckLemmas.{below_or}
 use Rattle.orc_check.proofs.GroupBounds.{bounds_long}
@@ -88,7 +88,7 @@ says_of s group entry h = tells_of (option_map (stat_read (kind_of s)) entry.sta
 pub right_agrees : (stride : ℕ) (s : Shape) (rows : List Cell) (footer : StripeFooter) (bytes : List ℕ) (c : ℕ) → HasRightIndex stride s rows footer bytes c → HasAgreeingIndex stride s rows footer bytes c
 right_agrees stride s rows footer bytes c h =
     let r = h.1 in
-    let group : ℕ → List Cell = group_of (cells s c rows) (bounds_of s c rows (starts stride (length rows))) in (
+    let group : ℕ → List Cell = group_of (cells s c rows) (bounds_of s c rows (starts_of_groups stride (length rows))) in (
       h.0,
       record {
         message = r.message;
@@ -105,12 +105,12 @@ whole_tells tail rows h c lt = tells_of (slice_get tail.file_stats c) (known_who
 
 -- ---- entries
 
-entry_there : (es : List RowIndexEntry) (g : ℕ) → g < length es → slice_get es g ≡ Some (entry_at es g)
+entry_there : (es : List RowIndexEntry) (g : ℕ) → g < length es → slice_get es g ≡ Some (entry_of_group es g)
 entry_there [] g lt = absurd (omega (arith, lt))
 entry_there (e ∷ es) zero lt = refl
 entry_there (e ∷ es) (suc g) lt = entry_there es g (omega (arith, lt))
 
-entry_below : (es : List RowIndexEntry) (g : ℕ) (e : RowIndexEntry) → slice_get es g ≡ Some e → (g < length es) × (entry_at es g ≡ e)
+entry_below : (es : List RowIndexEntry) (g : ℕ) (e : RowIndexEntry) → slice_get es g ≡ Some e → (g < length es) × (entry_of_group es g ≡ e)
 entry_below [] g e h = cc
 entry_below (x ∷ es) zero e h = let same : x ≡ e = cc in (omega arith, same)
 entry_below (x ∷ es) (suc g) e h = let rest = entry_below es g e h in (omega (arith, rest.0), rest.1)
@@ -152,7 +152,7 @@ module _ (view : Opened) (n : ℕ) (rows : List Cell) (c : ℕ) (some : 0 < view
           column_with view rows c es,
           record { message = r.message; has_index = (h.0, r.spelled); whole = r.counted ∙ bounds_long view.schema c view.stride rows; column_is = refl },
           none_each (OfGroup (column_with view rows c es) n c) (length es)
-              (λ g lt. let got = entry_there es g lt in ([], [], inl (r.statistics g (entry_at es g) got, refl), inl (r.positions g (entry_at es g) got, refl), refl)),
+              (λ g lt. let got = entry_there es g lt in ([], [], inl (r.statistics g (entry_of_group es g) got, refl), inl (r.positions g (entry_of_group es g) got, refl), refl)),
         ),
       )
 

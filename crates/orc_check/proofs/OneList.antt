@@ -1,21 +1,19 @@
 -- What is found of a file is one list.
 use Rattle.std.proofs.Common.{◌≡◌, ◌∙◌, ℕ, zero, suc, inl, inr, List, ◌++◌, length, sym, ap, subst, arith}
-use Rattle.orc_wire.specs.Messages.{row_index}
-use Rattle.orc_wire.specs.SpellsLaws.{one_spelled}
 use Rattle.orc_wire.specs.declared.row_index.RowIndexMsg.{RowIndexMsg}
 use Rattle.orc_wire.specs.declared.stripe_footer.StripeFooter.{StripeFooter}
 use Rattle.orc_values.specs.Cells.{Cell}
 use Rattle.orc_values.specs.Shapes.{width}
 use Rattle.orc_stats.specs.declared.stat.Stat.{Stat}
-use Rattle.orc_stripe.specs.Opened.{Opened}
-use Rattle.orc_stripe.specs.RowIndexes.{HasIndex, index_text}
-use Rattle.orc_stripe.proofs.OneStripe.{one_footer}
-use Rattle.orc_tail.specs.Stripes.{stripe_at}
-use Rattle.orc_file.specs.FileRows.{stripe_bytes, opened_stripe, cut_rows}
+use Rattle.orc_stripe_reader.specs.Opened.{Opened}
+use Rattle.orc_stripe_reader.proofs.OneStripe.{one_footer}
+use Rattle.orc_tail.specs.Stripes.{stripe_at, stripe_bytes}
+use Rattle.orc_file_reader.specs.FileRows.{opened_stripe, cut_rows}
 use Rattle.orc_tail.specs.declared.tail.Tail.{Tail}
 use Rattle.orc_check.specs.declared.finding.Finding.{Finding}
 use Rattle.orc_check.specs.declared.finding.Finding.TheVariants.{StripeStatistic, IndexStatistic, IndexPosition, FileStatistic}
 use Rattle.orc_check.specs.Findings.{Unless, Both, OfEach, IndexedColumn, HasRightStatistic, HasRightPositions, OfGroup, OfGroups, column_with, IsIndexedColumn, OfIndex, OfColumn, OfStripe, OfStripes, OfFile, Findings, TellsStripe, TellsFile, stripe_told, rows_at}
+use Rattle.orc_check.proofs.IndexFound.{one_index}
 
 unless_one : (P : Type 0) (f : Finding) (a b : List Finding) → Unless P f a → Unless P f b → a ≡ b
 unless_one P f a b (inl p) (inl q) = p.1 ∙ sym q.1
@@ -34,10 +32,6 @@ group_one : (x : IndexedColumn) (n c g : ℕ) (a b : List Finding) → OfGroup x
 group_one x n c g =
     both_one (Unless (HasRightStatistic x g) (IndexStatistic n c g)) (Unless (HasRightPositions x g) (IndexPosition n c g))
     (unless_one (HasRightStatistic x g) (IndexStatistic n c g)) (unless_one (HasRightPositions x g) (IndexPosition n c g))
-
--- a column has one index at most
-pub one_index : (footer : StripeFooter) (bytes : List ℕ) (c : ℕ) (a b : RowIndexMsg) → HasIndex footer bytes c a → HasIndex footer bytes c b → a ≡ b
-one_index footer bytes c a b p q = one_spelled row_index 0 0 (index_text footer bytes c) a b p.1 q.1
 
 pub one_column : (view : Opened) (rows : List Cell) (c : ℕ) (x y : IndexedColumn) → IsIndexedColumn view rows c x → IsIndexedColumn view rows c y → x ≡ y
 one_column view rows c x y p q =

@@ -7,7 +7,7 @@ use Rattle.orc_values.proofs.Childless.{list_size, map_size}
 use Rattle.orc_column_reader.specs.Numbers.{AreNumbers}
 use Rattle.orc_column_reader.specs.Spellings.{size}
 use Rattle.orc_column_reader.specs.Stripe.{Streams, version, SpellsValues, IsColumn}
-use Rattle.orc_row_index.specs.Bounds.{AreBounds}
+use Rattle.orc_row_groups.specs.Bounds.{AreBounds}
 use Rattle.orc_column_walk.specs.ColumnFound.{IsColumnFound}
 use Rattle.orc_column_walk.specs.OwnColumns.{SpellsOwnValues, IsOwnColumn}
 use Rattle.orc_column_walk.specs.declared.found.ColumnFound.{ColumnFound}

@@ -4,7 +4,7 @@ use Rattle.orc_values.specs.Cells.{Cell}
 use Rattle.orc_values.specs.Shapes.{Shape}
 use Rattle.orc_stats.specs.declared.stat.Stat.{Stat}
 use Rattle.orc_stats.specs.Known.{known_as, told_body}
-use Rattle.orc_stripe_writer.specs.WrittenStripe.{column_stat}
+use Rattle.orc_stats.specs.ColumnStatistics.{column_stat}
 use Rattle.orc_check.specs.Checking.{HaveKnown}
 use Rattle.orc_check.proofs.CheckLemmas.{below_or}
 

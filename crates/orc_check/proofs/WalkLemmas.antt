@@ -1,7 +1,6 @@
 -- A stripe's columns, checked one after the other.
-use Rattle.std.proofs.Common.{◌≡◌, ◌∙◌, Bool, ℕ, zero, suc, ◌+◌, ◌-◌, ◌*◌, ◌^◌, ◌<◌, ◌≤◌, List, [], ◌∷◌, ◌++◌, length, map, take, drop, get_or, slice_get, refl, sym, ap, subst, arith, string_bytes}
-use Rattle.std.specs.List.{flat_map, range_with_len}
-use Rattle.std.proofs.lemmas.Grind.{div_ceil_times}
+use Rattle.std.proofs.Common.{◌≡◌, ◌∙◌, Bool, ℕ, zero, suc, ◌+◌, ◌-◌, ◌^◌, ◌<◌, ◌≤◌, List, [], ◌∷◌, ◌++◌, length, map, take, drop, get_or, slice_get, refl, sym, ap, subst, arith, string_bytes}
+use Rattle.std.specs.List.{flat_map}
 use Rattle.std.proofs.lemmas.List.{length-map}
 use Rattle.orc_wire.specs.declared.stripe_footer.StripeFooter.{StripeFooter}
 use Rattle.orc_values.specs.Cells.{Cell, parts, pairs_in, keys_in, values_in, values}
@@ -17,37 +16,39 @@ use Rattle.orc_stats.specs.Known.{known_as, told_body}
 use Rattle.orc_stats.specs.Statistics.{stat}
 use Rattle.orc_stats.specs.declared.stat.Stat.{Stat}
 use Rattle.orc_column_reader.specs.Faults.{RowsFault}
-use Rattle.orc_column_reader.specs.Located.{AreLocated}
-use Rattle.orc_column_reader.specs.Stripe.{Streams, HasFooter, IsStripe, SpellRows, columns_of, cell_limit}
-use Rattle.orc_column_reader.specs.declared.fault.StripeFault.{StripeFault}
-use Rattle.orc_column_reader.specs.declared.fault.StripeFault.TheVariants.{TooMany}
-use Rattle.orc_column_reader.proofs.Arms.{some_width}
-use Rattle.orc_row_index.specs.Bounds.{AreBounds, bound_at, elements_before, pairs_before, values_before}
-use Rattle.orc_row_index.proofs.Groups.{element_bounds_are, field_bounds_are, keys_long, map_values_long}
+use Rattle.orc_directory.specs.Located.{AreLocated}
+use Rattle.orc_column_reader.specs.Stripe.{Streams, HasFooter, IsStripe, SpellRows, columns_of}
+use Rattle.orc_values.specs.Limits.{cell_limit}
+use Rattle.orc_directory.specs.declared.fault.StripeFault.{StripeFault}
+use Rattle.orc_directory.specs.declared.fault.StripeFault.TheVariants.{TooMany}
+use Rattle.orc_values.proofs.Widths.{some_width}
+use Rattle.orc_row_groups.specs.Bounds.{AreBounds, bound_at, elements_before, pairs_before, values_before}
+use Rattle.orc_row_groups.proofs.Groups.{element_bounds_are, field_bounds_are, keys_long, map_values_long}
 use Rattle.orc_column_walk.specs.ColumnFound.{IsColumnFound, bounds_below}
 use Rattle.orc_column_walk.specs.OwnColumns.{IsOwnColumn, OwnDown}
-use Rattle.orc_column_walk.specs.OwnFaults.{IsRefused, RefusedDown}
+use Rattle.orc_column_walk.specs.OwnFaults.{SpellsNoCells, RefusedDown}
 use Rattle.orc_column_walk.specs.OwnLeft.{children}
 use Rattle.orc_column_walk.specs.declared.found.ColumnFound.{ColumnFound}
 use Rattle.orc_column_walk.proofs.OwnRows.{down_rows}
 use Rattle.orc_column_walk.proofs.RefusedLemmas.{refused_rows}
 use Rattle.orc_column_walk.proofs.TreeLemmas.{FieldsRead, too_many_rows}
 use Rattle.orc_column_walk.proofs.FoundLemmas.{found_of_rows}
-use Rattle.orc_stripe_writer.specs.Groups.{group_count, starts, bounds_of, AreGroupsFrom, AreFieldGroupsFrom}
-use Rattle.orc_stripe_writer.specs.Subtrees.{AreColumnsFrom, AreFieldsFrom}
-use Rattle.orc_stripe_writer.proofs.GroupLemmas.{bounds_here, groups_at_root, groups_element, groups_pairs, groups_fields, groups_first, groups_others, heads_long, pair_bounds_are}
-use Rattle.orc_stripe_writer.proofs.SubtreeLemmas.{type_from, cells_from, all_columns_from, element_from, pairs_from, fields_from, first_from, others_from, fields_at, none_after, nothing_dropped, dropped_more}
-use Rattle.orc_stripe.specs.Opened.{Opened}
+use Rattle.orc_row_groups.specs.Groups.{starts_of_groups, bounds_of, AreGroupsFrom, AreFieldGroupsFrom}
+use Rattle.orc_row_groups.specs.Subtrees.{AreColumnsFrom, AreFieldsFrom}
+use Rattle.orc_row_groups.proofs.GroupLemmas.{bounds_here, groups_at_root, groups_element, groups_pairs, groups_fields, groups_first, groups_others, heads_long, pair_bounds_are}
+use Rattle.orc_row_groups.proofs.SubtreeLemmas.{type_from, cells_from, all_columns_from, element_from, pairs_from, fields_from, first_from, others_from, fields_at, none_after, nothing_dropped, dropped_more}
+use Rattle.orc_stripe_reader.specs.Opened.{Opened}
 use Rattle.orc_check.specs.declared.columns.CellGroups.{CellGroups}
 use Rattle.orc_check.specs.declared.finding.Finding.{Finding}
 use Rattle.orc_check.specs.declared.open_stripe.OpenStripe.{OpenStripe}
 use Rattle.orc_check.specs.Checking.{HaveKnown}
-use Rattle.orc_check.specs.Findings.{Adds, OfEach, OfColumn}
+use Rattle.orc_check.specs.Findings.{AddsFindings, OfEach, OfColumn}
 use Rattle.orc_check.specs.Needed.{NeedGroups}
-use Rattle.orc_check.specs.Walking.{IsLaidOut, SpellsRows, AreGrouped, ComesNext, FieldsComeNext, AreBelow, AreGroups, AreGroupsFound, IsFoundInRows, AreColumnsChecked}
+use Rattle.orc_check.specs.Walking.{HasStripeParts, SpellsRows, AreGrouped, ComesNext, FieldsComeNext, AreChildGroups, AreGroups, AreColumnGroupsFound, IsFoundInRows, AreColumnsChecked}
 use Rattle.orc_check.proofs.NeededLemmas.{need_within, need_here}
 use Rattle.orc_check.proofs.ReportLemmas.{adds_none, adds_next}
 use Rattle.orc_check.proofs.ToldLemmas.{more_known}
+use Rattle.orc_row_groups.proofs.BoundLemmas.{none_at, first_by}
 
 -- ---- the rows with which groups begin
 
@@ -55,33 +56,12 @@ pub one_group : (rows : ℕ) → AreBounds rows (0 ∷ [])
 one_group rows zero = omega arith
 one_group rows (suc g) = omega arith
 
-pub first_start : (stride rows : ℕ) → 0 < stride → bound_at rows (starts stride rows) 0 ≡ 0
-first_start stride rows some = by (group_count stride rows) refl
-  where
-    by : (n : ℕ) → group_count stride rows ≡ n → bound_at rows (starts stride rows) 0 ≡ 0
-    by zero e =
-        let k : rows ≤ group_count stride rows * stride = (div_ceil_times rows stride some).0 in
-        let none : rows ≤ 0 * stride = subst (λ (n : ℕ). rows ≤ n * stride) e k in
-        let z : rows ≡ 0 = omega (arith, none) in
-        ap (λ (n : ℕ). get_or (map (λ (g : ℕ). g * stride) (range_with_len 0 n)) 0 rows) e ∙ z
-    by (suc n) e = let z : 0 * stride ≡ 0 = omega arith in ap (λ (m : ℕ). get_or (map (λ (g : ℕ). g * stride) (range_with_len 0 m)) 0 rows) e ∙ z
-
--- where there is no column below, nothing comes before a group
-none_at : (bounds : List ℕ) (g : ℕ) → bound_at 0 (map (λ b. 0) bounds) g ≡ 0
-none_at [] g = refl
-none_at (b ∷ bounds) zero = refl
-none_at (b ∷ bounds) (suc g) = none_at bounds g
-
 -- bounds stay bounds one level down
 bounds_go_down : (s : Shape) (column : List Cell) (bounds : List ℕ) → AreBounds (length column) bounds → AreBounds (children s (values column)) (bounds_below s column bounds)
 bounds_go_down (scalar k o) column bounds h = λ g. omega (arith, none_at bounds g, none_at bounds (suc g))
 bounds_go_down (list_of s o) column bounds h = element_bounds_are column bounds h
 bounds_go_down (map_of k v o) column bounds h = pair_bounds_are column bounds h
 bounds_go_down (struct_of fs o) column bounds h = field_bounds_are column bounds h
-
-first_by : (f : ℕ → ℕ) (m n : ℕ) (bounds : List ℕ) → f 0 ≡ 0 → (m ≡ 0 → n ≡ 0) → bound_at m bounds 0 ≡ 0 → bound_at n (map f bounds) 0 ≡ 0
-first_by f m n [] z none e = none e
-first_by f m n (b ∷ bs) z none e = ap f e ∙ z
 
 first_goes_down : (s : Shape) (column : List Cell) (bounds : List ℕ) → bound_at (length column) bounds 0 ≡ 0 → bound_at (children s (values column)) (bounds_below s column bounds) 0 ≡ 0
 first_goes_down (scalar k o) column bounds h = none_at bounds 0
@@ -123,9 +103,9 @@ module _ (view : Opened) (rows : List Cell) (c : ℕ) (t : Shape) (here : List C
       subst (λ (u : Shape). IsColumnFound u here bounds f) type_is (subst (λ (cs : List Cell). IsColumnFound (shape_at view.schema c) cs bounds f) cells_are r)
 
   -- the column's groups, where they are needed
-  groups_here : (f : ColumnFound) → AreGrouped groups → NeedGroups view c (c + width t) → IsColumnFound t here groups.bounds.items f → AreGroupsFound view rows c t f.groups.items
+  groups_here : (f : ColumnFound) → AreGrouped groups → NeedGroups view c (c + width t) → IsColumnFound t here groups.bounds.items f → AreColumnGroupsFound view rows c t f.groups.items
   groups_here f grouped need h =
-      let all = starts view.stride (length rows) in
+      let all = starts_of_groups view.stride (length rows) in
       let rising : AreBounds (length here) groups.bounds.items = subst (λ (n : ℕ). AreBounds n groups.bounds.items) (sym next.counted) grouped.ascending in
       let bounded : bounds_of view.schema c rows all ≡ groups.bounds.items = bounds_here view.schema rows all c t here groups.bounds.items (next.bounded need) rising in
       record {
@@ -152,11 +132,11 @@ module _ (view : Opened) (rows : List Cell) (c : ℕ) (t : Shape) (here : List C
 -- ---- the columns right below
 
 pub element_next : (view : Opened) (rows : List Cell) (c d : ℕ) (s t : Shape) (o : List ℕ) (here : List Cell) (groups below : CellGroups) → s ≡ list_of t o → d ≡ c + 1 → ComesNext view rows c s here groups
-    → AreBelow view c s here groups below → ComesNext view rows d t (flat_map parts (values here)) below
+    → AreChildGroups view c s here groups below → ComesNext view rows d t (flat_map parts (values here)) below
 element_next view rows c d s t o here groups below is there h is_below =
     let at_list = subst (λ (u : Shape). ComesNext view rows c u here groups) is h in
-    let b = subst (λ (u : Shape). AreBelow view c u here groups below) is is_below in
-    let first = starts view.stride (length rows) in
+    let b = subst (λ (u : Shape). AreChildGroups view c u here groups below) is is_below in
+    let first = starts_of_groups view.stride (length rows) in
     let elements = flat_map parts (values here) in
     record {
       spelled = h.spelled;
@@ -169,11 +149,11 @@ element_next view rows c d s t o here groups below is there h is_below =
     }
 
 pub keys_next : (view : Opened) (rows : List Cell) (c d : ℕ) (s k v : Shape) (o : List ℕ) (here : List Cell) (groups below : CellGroups) → s ≡ map_of k v o → d ≡ c + 1 → ComesNext view rows c s here groups
-    → AreBelow view c s here groups below → ComesNext view rows d k (flat_map keys_in (values here)) below
+    → AreChildGroups view c s here groups below → ComesNext view rows d k (flat_map keys_in (values here)) below
 keys_next view rows c d s k v o here groups below is there h is_below =
     let at_map = subst (λ (u : Shape). ComesNext view rows c u here groups) is h in
-    let b = subst (λ (u : Shape). AreBelow view c u here groups below) is is_below in
-    let first = starts view.stride (length rows) in
+    let b = subst (λ (u : Shape). AreChildGroups view c u here groups below) is is_below in
+    let first = starts_of_groups view.stride (length rows) in
     let keys = flat_map keys_in (values here) in
     record {
       spelled = h.spelled;
@@ -186,11 +166,11 @@ keys_next view rows c d s k v o here groups below is there h is_below =
     }
 
 pub seconds_next : (view : Opened) (rows : List Cell) (c d second : ℕ) (s k v : Shape) (o : List ℕ) (here : List Cell) (groups below : CellGroups) → s ≡ map_of k v o → d ≡ c + 1 → second ≡ d + width k
-    → ComesNext view rows c s here groups → AreBelow view c s here groups below → ComesNext view rows second v (flat_map values_in (values here)) below
+    → ComesNext view rows c s here groups → AreChildGroups view c s here groups below → ComesNext view rows second v (flat_map values_in (values here)) below
 seconds_next view rows c d second s k v o here groups below is there behind h is_below =
     let at_map = subst (λ (u : Shape). ComesNext view rows c u here groups) is h in
-    let b = subst (λ (u : Shape). AreBelow view c u here groups below) is is_below in
-    let first = starts view.stride (length rows) in
+    let b = subst (λ (u : Shape). AreChildGroups view c u here groups below) is is_below in
+    let first = starts_of_groups view.stride (length rows) in
     let seconds = flat_map values_in (values here) in
     let e : c + 1 + width k ≡ second = omega (arith, there, behind) in
     record {
@@ -204,11 +184,11 @@ seconds_next view rows c d second s k v o here groups below is there behind h is
     }
 
 pub fields_next : (view : Opened) (rows : List Cell) (c d : ℕ) (s : Shape) (fs : Fields) (o : List ℕ) (here : List Cell) (groups below : CellGroups) → s ≡ struct_of fs o → d ≡ c + 1 → c < width view.schema
-    → ComesNext view rows c s here groups → AreBelow view c s here groups below → FieldsComeNext view rows d fs (map parts (values here)) below
+    → ComesNext view rows c s here groups → AreChildGroups view c s here groups below → FieldsComeNext view rows d fs (map parts (values here)) below
 fields_next view rows c d s fs o here groups below is there lt h is_below =
     let at_struct = subst (λ (u : Shape). ComesNext view rows c u here groups) is h in
-    let b = subst (λ (u : Shape). AreBelow view c u here groups below) is is_below in
-    let first = starts view.stride (length rows) in
+    let b = subst (λ (u : Shape). AreChildGroups view c u here groups below) is is_below in
+    let first = starts_of_groups view.stride (length rows) in
     let structs = map parts (values here) in
     record {
       spelled = h.spelled;
@@ -225,7 +205,7 @@ fields_next view rows c d s fs o here groups below is there lt h is_below =
 
 -- one column more
 pub column_checked : (view : Opened) (told : List Stat) (number : ℕ) (rows : List Cell) (c : ℕ) (before mid after : List Finding) (stats : List Stat) (x : Stat) → AreColumnsChecked view told number rows c before mid stats
-    → Adds (OfColumn view told number rows c) mid after → x ≡ stat (kind_of (shape_at view.schema c)) (cells view.schema c rows)
+    → AddsFindings (OfColumn view told number rows c) mid after → x ≡ stat (kind_of (shape_at view.schema c)) (cells view.schema c rows)
     → AreColumnsChecked view told number rows (c + 1) before after (stats ++ known_as (told_body (slice_get told c)) x ∷ [])
 column_checked view told number rows c before mid after stats x h more is = record {
   found = adds_next (OfColumn view told number rows) c before mid after h.found more;
@@ -249,7 +229,7 @@ ChecksFields view told number c end fs groups found stats after more =
 
 -- a column's children are these, wherever it comes next
 abbrev pub Leads : Opened → ℕ → Shape → CellGroups → CellGroups → Type 0
-Leads view c t groups below = (rows here : List Cell) → ComesNext view rows c t here groups → AreBelow view c t here groups below
+Leads view c t groups below = (rows here : List Cell) → ComesNext view rows c t here groups → AreChildGroups view c t here groups below
 
 module _ (view : Opened) (told : List Stat) (number : ℕ) (c d : ℕ) (s : Shape) (groups below : CellGroups) (found mid after : List Finding) (stats some more : List Stat) (there : d ≡ c + 1) (leads : Leads view c s groups below)
     (own : Checks view told number c (c + 1) s groups found stats mid some) where
@@ -300,7 +280,7 @@ first_next view rows c name t fs structs groups h = record {
   counted = heads_long name t fs structs h.fit ∙ h.counted;
   columns = first_from view.schema rows c name t fs structs h.columns;
   bounded = λ need.
-      groups_first view.schema rows (starts view.stride (length rows)) c name t fs structs groups.bounds.items h.fit
+      groups_first view.schema rows (starts_of_groups view.stride (length rows)) c name t fs structs groups.bounds.items h.fit
       (h.bounded (need_within view c c (c + width t) (c + widths (field name t fs)) (omega arith) (omega arith) need));
 }
 
@@ -312,7 +292,7 @@ others_next view rows c name t fs structs groups h = record {
   fit = tails_fit name t fs structs h.fit;
   columns = others_from view.schema rows c name t fs structs h.columns;
   bounded = λ need.
-      groups_others view.schema rows (starts view.stride (length rows)) c name t fs structs groups.bounds.items
+      groups_others view.schema rows (starts_of_groups view.stride (length rows)) c name t fs structs groups.bounds.items
       (h.bounded (need_within view c (c + width t) (c + width t + widths fs) (c + widths (field name t fs)) (omega arith) (omega arith) need));
 }
 
@@ -357,14 +337,14 @@ fields_checked view told number fs columns first next groups place found stats m
 
 -- ---- a column that is read
 
-pub columns_there : (stripe : OpenStripe) (footer : StripeFooter) (c : ℕ) → IsLaidOut stripe → footer ≡ stripe.view.now.footer → c < width stripe.view.now.schema → c < length footer.columns
+pub columns_there : (stripe : OpenStripe) (footer : StripeFooter) (c : ℕ) → HasStripeParts stripe → footer ≡ stripe.view.now.footer → c < width stripe.view.now.schema → c < length footer.columns
 columns_there stripe footer c out same lt = let e = ap (λ (f : StripeFooter). length f.columns) same in omega (arith, e, out.columns, lt)
 
-pub located_there : (stripe : OpenStripe) (footer : StripeFooter) → IsLaidOut stripe → footer ≡ stripe.view.now.footer → AreLocated (length footer.columns) footer.streams stripe.located.bytes.now stripe.located.slices.items
+pub located_there : (stripe : OpenStripe) (footer : StripeFooter) → HasStripeParts stripe → footer ≡ stripe.view.now.footer → AreLocated (length footer.columns) footer.streams stripe.located.bytes.now stripe.located.slices.items
 located_there stripe footer out same = subst (λ (f : StripeFooter). AreLocated (length f.columns) f.streams stripe.located.bytes.now stripe.located.slices.items) (sym same) out.located
 
 -- its own cells, as the stripe's bytes and footer have them
-pub read_there : (stripe : OpenStripe) (footer : StripeFooter) (c : ℕ) (t : Shape) (count : ℕ) (bounds : List ℕ) (f : ColumnFound) → IsLaidOut stripe → footer ≡ stripe.view.now.footer
+pub read_there : (stripe : OpenStripe) (footer : StripeFooter) (c : ℕ) (t : Shape) (count : ℕ) (bounds : List ℕ) (f : ColumnFound) → HasStripeParts stripe → footer ≡ stripe.view.now.footer
     → (own : List Cell) × IsOwnColumn t (columns_of footer stripe.located.bytes.now c) count own × IsColumnFound t own bounds f
     → (own : List Cell) × IsOwnColumn t (columns_of stripe.view.now.footer stripe.view.now.bytes c) count own × IsColumnFound t own bounds f
 read_there stripe footer c t count bounds f out same h = (
@@ -373,20 +353,20 @@ read_there stripe footer c t count bounds f out same h = (
   h.2,
 )
 
-pub refused_there : (stripe : OpenStripe) (footer : StripeFooter) (c : ℕ) (t : Shape) (count : ℕ) (f : StripeFault) → IsLaidOut stripe → footer ≡ stripe.view.now.footer
-    → (all : Bool) × IsRefused t (columns_of footer stripe.located.bytes.now c) c all count f → (all : Bool) × IsRefused t (columns_of stripe.view.now.footer stripe.view.now.bytes c) c all count f
+pub refused_there : (stripe : OpenStripe) (footer : StripeFooter) (c : ℕ) (t : Shape) (count : ℕ) (f : StripeFault) → HasStripeParts stripe → footer ≡ stripe.view.now.footer
+    → (all : Bool) × SpellsNoCells t (columns_of footer stripe.located.bytes.now c) c all count f → (all : Bool) × SpellsNoCells t (columns_of stripe.view.now.footer stripe.view.now.bytes c) c all count f
 refused_there stripe footer c t count f out same h = (
   h.0,
-  subst (λ (b : List ℕ). IsRefused t (columns_of stripe.view.now.footer b c) c h.0 count f) out.same (subst (λ (g : StripeFooter). IsRefused t (columns_of g stripe.located.bytes.now c) c h.0 count f) same h.1),
+  subst (λ (b : List ℕ). SpellsNoCells t (columns_of stripe.view.now.footer b c) c h.0 count f) out.same (subst (λ (g : StripeFooter). SpellsNoCells t (columns_of g stripe.located.bytes.now c) c h.0 count f) same h.1),
 )
 
 pub below_of : (view : Opened) (c : ℕ) (t : Shape) (column : List Cell) (groups below : CellGroups) (bounds : List ℕ) (f : ColumnFound) → (NeedGroups view c (c + width t) → bounds ≡ groups.bounds.items) → IsColumnFound t column bounds f
-    → below.count ≡ f.below → below.bounds.items ≡ f.bounds_below.items → AreBelow view c t column groups below
+    → below.count ≡ f.below → below.bounds.items ≡ f.bounds_below.items → AreChildGroups view c t column groups below
 below_of view c t column groups below bounds f same h many are = (many ∙ h.below_is, λ need. are ∙ h.bounds_are ∙ ap (bounds_below t column) (same need))
 
 pub column_more : (view : Opened) (told : List Stat) (number : ℕ) (rows : List Cell) (c : ℕ) (t : Shape) (here : List Cell) (groups : CellGroups) (own : List Cell) (bounds : List ℕ) (f : ColumnFound) (before old mid : List Finding) (stats more : List Stat) → AreGrouped groups
     → c < width view.schema → (NeedGroups view c (c + width t) → bounds ≡ groups.bounds.items) → IsOwnColumn t (columns_of view.footer view.bytes c) groups.count own → IsColumnFound t own bounds f
-    → ((rs : List Cell) → IsFoundInRows view rs c t f → Adds (OfColumn view told number rs c) old mid) → more ≡ stats ++ known_as (told_body (slice_get told c)) f.stat ∷ [] → ComesNext view rows c t here groups
+    → ((rs : List Cell) → IsFoundInRows view rs c t f → AddsFindings (OfColumn view told number rs c) old mid) → more ≡ stats ++ known_as (told_body (slice_get told c)) f.stat ∷ [] → ComesNext view rows c t here groups
     → AreColumnsChecked view told number rows c before old stats → AreColumnsChecked view told number rows (c + 1) before mid more
 column_more view told number rows c t here groups own bounds f before old mid stats more grouped lt same is found adds put next h =
     let in_rows : IsFoundInRows view rows c t f = found_in_rows view rows c t here groups next bounds f grouped same (found_here view rows c t here groups next own bounds f lt is found) in
@@ -397,12 +377,12 @@ column_more view told number rows c t here groups own bounds f before old mid st
 
 -- the root's groups are those of the rows, where some column's are needed
 abbrev pub AreOfRows : Opened → CellGroups → Type 0
-AreOfRows view groups = NeedGroups view 0 (width view.schema) → groups.bounds.items ≡ starts view.stride groups.count
+AreOfRows view groups = NeedGroups view 0 (width view.schema) → groups.bounds.items ≡ starts_of_groups view.stride groups.count
 
 pub all_come_next : (view : Opened) (rows : List Cell) (t : Shape) (groups : CellGroups) → SpellsRows view rows → t ≡ view.schema → groups.count ≡ view.info.number_of_rows → AreOfRows view groups → ComesNext view rows 0 t rows groups
 all_come_next view rows t groups spelled is many are =
     let long : length rows ≡ groups.count = spelled.counted ∙ sym many in
-    let all = starts view.stride (length rows) in
+    let all = starts_of_groups view.stride (length rows) in
     record {
       spelled = spelled;
       counted = long;
@@ -410,7 +390,7 @@ all_come_next view rows t groups spelled is many are =
       bounded = λ need.
           let w : width t ≡ width view.schema = ap width is in
           let whole : NeedGroups view 0 (width view.schema) = need_within view 0 0 (0 + width t) (width view.schema) (omega arith) (omega (arith, w)) need in
-          let same : all ≡ groups.bounds.items = ap (starts view.stride) long ∙ sym (are whole) in
+          let same : all ≡ groups.bounds.items = ap (starts_of_groups view.stride) long ∙ sym (are whole) in
           subst (λ (bs : List ℕ). AreGroupsFrom view.schema rows all 0 t rows bs) same (subst (λ (u : Shape). AreGroupsFrom view.schema rows all 0 u rows all) (sym is) (groups_at_root view.schema rows all));
     }
 
@@ -421,7 +401,7 @@ all_many view n many lt = subst (λ (m : ℕ). RowsFault view.schema (columns_of
 pub all_found : (view : Opened) (told : List Stat) (number : ℕ) (t : Shape) (groups : CellGroups) (before after : List Finding) (none stats : List Stat) → HasFooter view.schema view.info view.bytes view.footer → t ≡ view.schema
     → groups.count ≡ view.info.number_of_rows → AreOfRows view groups → none ≡ [] → OwnDown t (columns_of view.footer view.bytes) 0 groups.count
     → Checks view told number 0 (0 + width t) t groups before none after stats
-    → (rows : List Cell) × IsStripe view.schema view.info view.bytes rows × Adds (OfEach (OfColumn view told number rows) (width view.schema)) before after × HaveKnown view.schema told rows (width view.schema) stats
+    → (rows : List Cell) × IsStripe view.schema view.info view.bytes rows × AddsFindings (OfEach (OfColumn view told number rows) (width view.schema)) before after × HaveKnown view.schema told rows (width view.schema) stats
 all_found view told number t groups before after none stats has is many are empty down checks =
     let x = columns_of view.footer view.bytes in
     let found = down_rows t x groups.count down in

@@ -1,5 +1,5 @@
 -- The statistics of the whole file are joined of those of the stripes' rows, as far as they are told.
-use Rattle.std.proofs.Common.{◌≡◌, ◌∙◌, ℕ, zero, suc, ◌+◌, ◌*◌, ◌<◌, ◌≤◌, ◌^◌, ◌⊎◌, inl, inr, true, List, [], ◌∷◌, ◌++◌, length, map, take, drop, slice_get, Some, refl, sym, ap, subst, arith, length-append}
+use Rattle.std.proofs.Common.{◌≡◌, ◌∙◌, ℕ, ◌+◌, ◌*◌, ◌<◌, ◌≤◌, ◌^◌, ◌⊎◌, inl, inr, true, List, [], ◌∷◌, ◌++◌, length, map, slice_get, Some, refl, sym, ap, subst, arith, length-append}
 use Rattle.std.specs.Prelude.{All, sum_by}
 use Rattle.std.specs.List.{AllByRecursion, flat_map}
 use Rattle.std.proofs.lemmas.List.Concat.{flat_map-cons}
@@ -21,16 +21,14 @@ use Rattle.orc_stats.specs.Statistics.{stat, values_body}
 use Rattle.orc_stats.specs.Joining.{joined}
 use Rattle.orc_stats.specs.Known.{known_in, known_as, told_body, Part, part_cells, known_stats}
 use Rattle.orc_stats.proofs.KnownParts.{joined-told, part_cells-parts_of}
-use Rattle.orc_stripe_writer.specs.WrittenStripe.{column_stat}
-use Rattle.orc_tail.specs.Statistics.{kind_at, column_stats, of_columns, file_stats}
-use Rattle.orc_file.specs.Honest.{AreWhole, told_at, column_parts, known_whole_of}
-use Rattle.orc_file.proofs.StatTests.{are_of_kind, values_few}
-use Rattle.orc_check.specs.Checking.{AreKnown, AreOfSchema, AreOwn}
-
-some_take : (xs : List Stat) (c : ℕ) (x : Stat) → slice_get xs c ≡ Some x → take 1 (drop c xs) ≡ x ∷ []
-some_take [] c x e = cc
-some_take (y ∷ ys) zero x e = let same : y ≡ x = cc in ap (λ (z : Stat). z ∷ []) same
-some_take (y ∷ ys) (suc c) x e = some_take ys c x e
+use Rattle.orc_stats.specs.ColumnStatistics.{column_stat}
+use Rattle.orc_tail.specs.Statistics.{kind_at, column_stats, file_stats}
+use Rattle.orc_file_reader.specs.Honest.{AreWhole, told_at, column_parts, known_whole_of}
+use Rattle.orc_stats.proofs.Folding.{few_values as values_few}
+use Rattle.orc_stats.proofs.Fitting.{are_of_kind}
+use Rattle.orc_check.specs.Checking.{AreKnown, AreOfSchema, AreOwnStats}
+use Rattle.orc_values.proofs.Lists.{some_take}
+use Rattle.orc_tail.proofs.OfColumns.{at_column, length-of_columns}
 
 pub column_is : (s : Shape) (c : ℕ) (told : List (List Stat)) (parts : List (List Cell)) (own : List (List Stat)) → c < width s → AreKnown s told parts own
     → column_stats c own ≡ known_stats (kind_at s c) (column_parts s told parts c)
@@ -60,16 +58,7 @@ cells_few s c (p ∷ parts) lt h =
     let len = length-append (cells s c p) (flat_map (λ (x : List Cell). x) (map (cells s c) parts)) in
     omega (arith, ap length all, len, few, rest)
 
-at_column : (f : ℕ → Stat) (d n c : ℕ) → c < n → slice_get (of_columns f d n) c ≡ Some (f (d + c))
-at_column f d zero c lt = absurd (omega (arith, lt))
-at_column f d (suc n) zero lt = let z : d ≡ d + 0 = omega arith in ap (λ k. Some (f k)) z
-at_column f d (suc n) (suc c) lt = let z : suc d + c ≡ d + suc c = omega arith in at_column f (suc d) n c (omega (arith, lt)) ∙ ap (λ k. Some (f k)) z
-
-pub columns_many : (f : ℕ → Stat) (d n : ℕ) → length (of_columns f d n) ≡ n
-columns_many f d zero = refl
-columns_many f d (suc n) = ap suc (columns_many f (suc d) n)
-
-pub whole_column : (s : Shape) (told : List (List Stat)) (parts : List (List Cell)) (own : List (List Stat)) (c : ℕ) → c < width s → AreOwn s told parts own
+pub whole_column : (s : Shape) (told : List (List Stat)) (parts : List (List Cell)) (own : List (List Stat)) (c : ℕ) → c < width s → AreOwnStats s told parts own
     → slice_get (file_stats s own) c ≡ Some (known_whole_of s told parts c)
 whole_column s told parts own c lt h =
     let k : StatKind = kind_at s c in
@@ -82,9 +71,9 @@ whole_column s told parts own c lt h =
     ∙ ap (λ (xs : List Stat). Some (joined k xs)) (column_is s c told parts own lt h.known)
     ∙ ap Some (joined-told k (told_at told c) (map (cells s c) parts) (kinds_are s c parts lt h.fit) most)
 
-pub whole_is : (s : Shape) (told : List (List Stat)) (parts : List (List Cell)) (own : List (List Stat)) (whole : List Stat) → whole ≡ file_stats s own → AreOwn s told parts own → AreWhole s told parts whole
+pub whole_is : (s : Shape) (told : List (List Stat)) (parts : List (List Cell)) (own : List (List Stat)) (whole : List Stat) → whole ≡ file_stats s own → AreOwnStats s told parts own → AreWhole s told parts whole
 whole_is s told parts own whole e h = subst (λ (xs : List Stat). AreWhole s told parts xs) (sym e) (record {
-  counted = columns_many (λ d. joined (kind_at s d) (column_stats d own)) 0 (width s);
+  counted = length-of_columns (λ d. joined (kind_at s d) (column_stats d own)) 0 (width s);
   each = λ c lt. whole_column s told parts own c lt h;
 })
 
@@ -101,7 +90,7 @@ bodies_are : (k : StatKind) (parts : List Part) → AllByRecursion (λ (x : Stat
 bodies_are k [] = tt
 bodies_are k (p ∷ parts) = (body_is k (told_body p.told) p.cells, bodies_are k parts)
 
-pub own_kinds : (s : Shape) (told : List (List Stat)) (parts : List (List Cell)) (own : List (List Stat)) (c : ℕ) → c < width s → AreOwn s told parts own
+pub own_kinds : (s : Shape) (told : List (List Stat)) (parts : List (List Cell)) (own : List (List Stat)) (c : ℕ) → c < width s → AreOwnStats s told parts own
     → All (λ (x : Stat). body_is_of (kind_at s c) x.body ≡ true) (column_stats c own)
 own_kinds s told parts own c lt h =
     let k : StatKind = kind_at s c in
@@ -118,7 +107,7 @@ counts_few k (p ∷ parts) =
     let len = length-append p.cells (flat_map (λ (x : List Cell). x) (part_cells parts)) in
     omega (arith, sum, ap length all, len, values_few p.cells, counts_few k parts)
 
-pub own_few : (s : Shape) (told : List (List Stat)) (parts : List (List Cell)) (own : List (List Stat)) (c : ℕ) → c < width s → AreOwn s told parts own
+pub own_few : (s : Shape) (told : List (List Stat)) (parts : List (List Cell)) (own : List (List Stat)) (c : ℕ) → c < width s → AreOwnStats s told parts own
     → sum_by (λ (x : Stat). x.count) (column_stats c own) ≤ 2 ^ 62
 own_few s told parts own c lt h =
     let same = ap (λ (cs : List (List Cell)). length (flat_map (λ p. p) cs)) (part_cells-parts_of (told_at told c) (map (cells s c) parts)) in
@@ -126,7 +115,7 @@ own_few s told parts own c lt h =
     let few = h.few in
     subst (λ (xs : List Stat). sum_by (λ (x : Stat). x.count) xs ≤ 2 ^ 62) (sym (column_is s c told parts own lt h.known)) (omega (arith, counts_few (kind_at s c) (column_parts s told parts c), same, count, few))
 
-pub never_large : (s : Shape) (told : List (List Stat)) (parts : List (List Cell)) (own : List (List Stat)) (e : StatFault) → AreOwn s told parts own → e ≡ fault.CountTooLarge
+pub never_large : (s : Shape) (told : List (List Stat)) (parts : List (List Cell)) (own : List (List Stat)) (e : StatFault) → AreOwnStats s told parts own → e ≡ fault.CountTooLarge
     → (e ≡ fault.OutOfMemory) ⊎ ((e ≡ fault.CountTooLarge) × (c : ℕ) × (c < width s) × (2 ^ 62 < sum_by (λ (x : Stat). x.count) (column_stats c own))) → ⊥
 never_large s told parts own e h large (inl memory) = let wrong : fault.CountTooLarge ≡ fault.OutOfMemory = sym large ∙ memory in cc
 never_large s told parts own e h large (inr why) = omega (arith, why.3, own_few s told parts own why.1 why.2 h)

@@ -6,22 +6,22 @@ use Rattle.orc_values.specs.Columns.{cells}
 use Rattle.orc_values.specs.Fits.{RowsFit}
 use Rattle.orc_values.proofs.Together.{cells_fit}
 use Rattle.orc_values.specs.Shapes.{Shape, width, shape_at}
-use Rattle.orc_column_reader.specs.Directory.{has_stream, slice}
+use Rattle.orc_directory.specs.Directory.{has_stream, slice}
 use Rattle.orc_column_reader.specs.Starting.{AreStreams}
-use Rattle.orc_column_reader.specs.Stripe.{Streams, IsColumn, columns_of, cell_limit}
+use Rattle.orc_column_reader.specs.Stripe.{Streams, IsColumn, columns_of}
+use Rattle.orc_values.specs.Limits.{cell_limit}
 use Rattle.orc_column_reader.specs.declared.starting.ColumnStreams.{ColumnStreams}
 use Rattle.orc_column_walk.specs.declared.found.GroupFound.{GroupFound}
-use Rattle.orc_row_index.specs.RowIndex.{IsWrittenIndex, IsRightIndex}
+use Rattle.orc_row_index.specs.RowIndex.{IsWrittenIndex, IsRightIndex, HasRightIndex}
 use Rattle.orc_row_index.proofs.WrittenIndex.{index_right}
-use Rattle.orc_stripe_writer.specs.Groups.{starts, bounds_of}
-use Rattle.orc_stripe_writer.specs.WrittenStripe.{HasRightIndex}
-use Rattle.orc_stripe.specs.IndexTexts.{text_of}
-use Rattle.orc_stripe.specs.declared.view.index_texts.IndexText.{IndexText}
+use Rattle.orc_row_groups.specs.Groups.{starts_of_groups, bounds_of}
+use Rattle.orc_stripe_reader.specs.IndexTexts.{kept_index_bytes}
+use Rattle.orc_stripe_reader.specs.declared.view.index_texts.IndexText.{IndexText}
 use Rattle.orc_check.specs.declared.finding.Finding.{Finding}
 use Rattle.orc_check.specs.declared.open_stripe.OpenStripe.{OpenStripe}
-use Rattle.orc_check.specs.Findings.{Adds, OfIndex}
+use Rattle.orc_check.specs.Findings.{AddsFindings, OfIndex}
 use Rattle.orc_check.specs.OwnGroups.{AreGroupsOf}
-use Rattle.orc_check.specs.Walking.{IsLaidOut, AreGroupsFound}
+use Rattle.orc_check.specs.Walking.{HasStripeParts, AreColumnGroupsFound}
 use Rattle.orc_check.proofs.IndexFound.{text_is}
 use Rattle.orc_check.proofs.NoFinding.{right_agrees, right_index}
 
@@ -33,15 +33,15 @@ listed_is b own bytes e = by b e
     by true e = (refl, cc)
     by false e = cc
 
-pub written_found : (stripe : OpenStripe) (rows : List Cell) (c : ℕ) (t : Shape) (groups : List GroupFound) (text : IndexText) (streams : ColumnStreams) (found : List Finding) → IsLaidOut stripe → c < width stripe.view.now.schema
+pub written_found : (stripe : OpenStripe) (rows : List Cell) (c : ℕ) (t : Shape) (groups : List GroupFound) (text : IndexText) (streams : ColumnStreams) (found : List Finding) → HasStripeParts stripe → c < width stripe.view.now.schema
     → text ≡ get_or stripe.texts.items c text → AreStreams (columns_of stripe.view.now.footer stripe.view.now.bytes c) streams
-    → ((x : Streams) (cs : List Cell) (bs : List ℕ) → AreStreams x streams → RowsFit t cs → length cs < cell_limit → AreGroupsOf t x cs bs groups → (bytes : List ℕ) × (text_of text ≡ Some bytes) × IsWrittenIndex t x cs bs bytes)
-    → 0 < stripe.view.now.stride → AreGroupsFound stripe.view.now rows c t groups → Adds (OfIndex stripe.view.now stripe.number rows c) found found
+    → ((x : Streams) (cs : List Cell) (bs : List ℕ) → AreStreams x streams → RowsFit t cs → length cs < cell_limit → AreGroupsOf t x cs bs groups → (bytes : List ℕ) × (kept_index_bytes text ≡ Some bytes) × IsWrittenIndex t x cs bs bytes)
+    → 0 < stripe.view.now.stride → AreColumnGroupsFound stripe.view.now rows c t groups → AddsFindings (OfIndex stripe.view.now stripe.number rows c) found found
 written_found stripe rows c t groups text streams found out lt at streams_are written some h =
     let v = stripe.view.now in
     let x = columns_of v.footer v.bytes c in
     let cs = cells v.schema c rows in
-    let bs = bounds_of v.schema c rows (starts v.stride (length rows)) in
+    let bs = bounds_of v.schema c rows (starts_of_groups v.stride (length rows)) in
     let column : IsColumn t x cs = subst (λ (u : Shape). IsColumn u x cs) h.type (h.spelled.column c lt) in
     let fit : RowsFit t cs = subst (λ (u : Shape). RowsFit u cs) h.type (cells_fit v.schema c rows lt h.spelled.fit) in
     let is = written x cs bs streams_are fit column.few (record { column = column; ascending = h.ascending; counted = h.counted; are = h.are }) in

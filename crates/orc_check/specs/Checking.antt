@@ -4,23 +4,24 @@ use Rattle.std.specs.List.{AllByRecursion}
 use Rattle.orc_values.specs.Shapes.{Shape, width}
 use Rattle.orc_values.specs.Columns.{cells}
 use Rattle.orc_values.specs.Fits.{RowsFit}
-use Rattle.orc_file.specs.FileRows.{IsNoStripe, FirstRefused}
-use Rattle.orc_file.specs.Honest.{AreWhole}
+use Rattle.orc_file_reader.specs.FileRows.{IsNoStripe, FirstRefused}
+use Rattle.orc_file_reader.specs.Honest.{AreWhole}
 use Rattle.orc_tail.specs.Stripes.{most_stripes, stripe_at}
-use Rattle.orc_tail.specs.Tails.{IsTail, OpenFault, IsOfTail}
+use Rattle.orc_tail.specs.Tails.{IsTail, TailOpenFault, IsOfTail}
 use Rattle.orc_tail.specs.declared.fault.FileFault.{FileFault}
 use Rattle.orc_tail.specs.declared.fault.FileFault.TheVariants.{Stripe}
 use Rattle.orc_wire.specs.declared.stripe_info.StripeInfo.{StripeInfo}
 use Rattle.orc_values.specs.Cells.{Cell}
 use Rattle.orc_stats.specs.declared.stat.Stat.{Stat}
 use Rattle.orc_stats.specs.Known.{known_as, told_body}
-use Rattle.orc_column_reader.specs.Stripe.{IsStripe, cell_limit}
-use Rattle.orc_column_reader.specs.declared.fault.StripeFault.{StripeFault}
-use Rattle.orc_column_reader.specs.declared.fault.StripeFault.TheVariants as stripe
-use Rattle.orc_stripe_writer.specs.WrittenStripe.{column_stat}
+use Rattle.orc_column_reader.specs.Stripe.{IsStripe}
+use Rattle.orc_values.specs.Limits.{cell_limit}
+use Rattle.orc_directory.specs.declared.fault.StripeFault.{StripeFault}
+use Rattle.orc_directory.specs.declared.fault.StripeFault.TheVariants as stripe
+use Rattle.orc_stats.specs.ColumnStatistics.{column_stat}
 use Rattle.orc_tail.specs.declared.tail.Tail.{Tail}
 use Rattle.orc_check.specs.declared.finding.Finding.{Finding}
-use Rattle.orc_check.specs.Findings.{OfStripe, Adds, stripe_told}
+use Rattle.orc_check.specs.Findings.{OfStripe, AddsFindings, stripe_told}
 
 -- the statistics of the first n columns of some rows, of children no more than is told of the column
 pub record HaveKnown (s : Shape) (told : List Stat) (rows : List Cell) (n : ℕ) (stats : List Stat) : Type 0 where
@@ -42,13 +43,13 @@ pub record IsChecked (tail : Tail) (n : ℕ) (bytes : List ℕ) (before after : 
     (stats : List Stat) : Type 0 where
   pub rows : List Cell
   pub stripe : IsStripe tail.schema (stripe_at tail.stripes n) bytes rows
-  pub found : Adds (OfStripe tail n bytes rows) before after
+  pub found : AddsFindings (OfStripe tail n bytes rows) before after
   pub counted : HaveKnown tail.schema (stripe_told tail n) rows (width tail.schema) stats
 
 -- Why bytes have no list of findings, not even an empty one: they have no tail, or a stripe has no rows.
 abbrev pub CheckFault : List ℕ → FileFault → Type 0
 CheckFault bytes fault =
-    OpenFault bytes fault ⊎ ((tail : Tail) × IsTail bytes tail × FirstRefused tail.schema bytes 0 tail.stripes fault)
+    TailOpenFault bytes fault ⊎ ((tail : Tail) × IsTail bytes tail × FirstRefused tail.schema bytes 0 tail.stripes fault)
 
 -- There are bytes that are no stripe of any rows for this reason.
 abbrev pub IsReason : StripeFault → Type 0
@@ -74,7 +75,7 @@ pub record AreOfSchema (s : Shape) (rows : List Cell) : Type 0 where
 
 -- These are the statistics of the rows of some stripes, as far as this tells of children, and there are no more stripes
 -- than a file may have.
-pub record AreOwn (s : Shape) (told : List (List Stat)) (parts : List (List Cell))
+pub record AreOwnStats (s : Shape) (told : List (List Stat)) (parts : List (List Cell))
     (own : List (List Stat)) : Type 0 where
   pub fit : AllByRecursion (AreOfSchema s) parts
   pub few : length parts ≤ most_stripes
@@ -82,10 +83,10 @@ pub record AreOwn (s : Shape) (told : List (List Stat)) (parts : List (List Cell
 
 -- of some rows, of which something is told
 abbrev pub HaveOwn : Shape → List (List Stat) → Type 0
-HaveOwn s own = (told : List (List Stat)) × (parts : List (List Cell)) × AreOwn s told parts own
+HaveOwn s own = (told : List (List Stat)) × (parts : List (List Cell)) × AreOwnStats s told parts own
 
 -- and these are the statistics of all their rows
 abbrev pub IsWholeOf : Shape → List (List Stat) → List Stat → Type 0
 IsWholeOf s own whole =
     (length whole ≡ width s)
-    × ((told : List (List Stat)) (parts : List (List Cell)) → AreOwn s told parts own → AreWhole s told parts whole)
+    × ((told : List (List Stat)) (parts : List (List Cell)) → AreOwnStats s told parts own → AreWhole s told parts whole)

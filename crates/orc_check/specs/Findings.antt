@@ -14,15 +14,15 @@ use Rattle.orc_stats.specs.Messages.{stat_read}
 use Rattle.orc_stats.specs.Statistics.{stat}
 use Rattle.orc_stats.specs.declared.stat.Stat.{Stat}
 use Rattle.orc_column_reader.specs.Stripe.{Streams, HasFooter, columns_of}
-use Rattle.orc_row_index.specs.Bounds.{before_group, group_of}
+use Rattle.orc_row_groups.specs.Bounds.{before_group, group_of}
 use Rattle.orc_row_index.specs.Positions.{AreReadPositions}
-use Rattle.orc_stripe_writer.specs.Groups.{starts, bounds_of}
-use Rattle.orc_stripe_writer.specs.WrittenStripe.{column_stat}
-use Rattle.orc_stripe.specs.Opened.{Opened}
-use Rattle.orc_stripe.specs.RowIndexes.{HasIndex, IsWhole}
-use Rattle.orc_tail.specs.Stripes.{stripe_at}
-use Rattle.orc_file.specs.FileRows.{stripe_bytes, opened_stripe, cut_rows}
-use Rattle.orc_file.specs.Honest.{known_whole_of}
+use Rattle.orc_row_groups.specs.Groups.{starts_of_groups, bounds_of}
+use Rattle.orc_stats.specs.ColumnStatistics.{column_stat}
+use Rattle.orc_stripe_reader.specs.Opened.{Opened}
+use Rattle.orc_stripe_reader.specs.RowIndexes.{HasIndex, HasEachGroup}
+use Rattle.orc_tail.specs.Stripes.{stripe_at, stripe_bytes}
+use Rattle.orc_file_reader.specs.FileRows.{opened_stripe, cut_rows}
+use Rattle.orc_file_reader.specs.Honest.{known_whole_of}
 use Rattle.orc_tail.specs.declared.tail.Tail.{Tail}
 use Rattle.orc_check.specs.Agreeing.{Tells}
 use Rattle.orc_check.specs.declared.finding.Finding.{Finding}
@@ -49,8 +49,8 @@ OfEach Of zero found = found ≡ []
 OfEach Of (suc n) found = Both (OfEach Of n) (Of n) found
 
 -- findings behind those before
-abbrev pub Adds : (List Finding → Type 0) → List Finding → List Finding → Type 0
-Adds Of before after = (own : List Finding) × Of own × (after ≡ before ++ own)
+abbrev pub AddsFindings : (List Finding → Type 0) → List Finding → List Finding → Type 0
+AddsFindings Of before after = (own : List Finding) × Of own × (after ≡ before ++ own)
 
 -- ---- the row index
 
@@ -64,8 +64,8 @@ pub record IndexedColumn : Type 0 where
   pub entries : List RowIndexEntry
 
 -- the entry of a group
-abbrev pub entry_at : List RowIndexEntry → ℕ → RowIndexEntry
-entry_at entries group = get_or entries group (record { positions = []; statistics = None })
+abbrev pub entry_of_group : List RowIndexEntry → ℕ → RowIndexEntry
+entry_of_group entries group = get_or entries group (record { positions = []; statistics = None })
 
 -- an entry tells the statistic of its group's cells, of children perhaps less
 abbrev pub TellsGroup : Shape → List Cell → RowIndexEntry → Type 0
@@ -73,12 +73,12 @@ TellsGroup s group entry = Tells (option_map (stat_read (kind_of s)) entry.stati
 
 -- the group's entry tells the statistic of the group
 abbrev pub HasRightStatistic : IndexedColumn → ℕ → Type 0
-HasRightStatistic x g = TellsGroup x.shape (group_of x.cells x.bounds g) (entry_at x.entries g)
+HasRightStatistic x g = TellsGroup x.shape (group_of x.cells x.bounds g) (entry_of_group x.entries g)
 
 -- from the positions in the group's entry a reader goes on with the group
 abbrev pub HasRightPositions : IndexedColumn → ℕ → Type 0
 HasRightPositions x g =
-    AreReadPositions x.shape x.streams (before_group x.cells x.bounds g) (entry_at x.entries g).positions
+    AreReadPositions x.shape x.streams (before_group x.cells x.bounds g) (entry_of_group x.entries g).positions
 
 -- What is found of a group: its statistic, then its positions.
 abbrev pub OfGroup : IndexedColumn → ℕ → ℕ → ℕ → List Finding → Type 0
@@ -96,7 +96,7 @@ column_with view rows c entries = record {
   shape = shape_at view.schema c;
   streams = columns_of view.footer view.bytes c;
   cells = cells view.schema c rows;
-  bounds = bounds_of view.schema c rows (starts view.stride (length rows));
+  bounds = bounds_of view.schema c rows (starts_of_groups view.stride (length rows));
   entries = entries;
 }
 
@@ -104,7 +104,7 @@ column_with view rows c entries = record {
 pub record IsIndexedColumn (view : Opened) (rows : List Cell) (c : ℕ) (x : IndexedColumn) : Type 0 where
   pub message : RowIndexMsg
   pub has_index : HasIndex view.footer view.bytes c message
-  pub whole : IsWhole view (length rows) message
+  pub whole : HasEachGroup view (length rows) message
   pub column_is : x ≡ column_with view rows c message.entries
 
 -- The one finding of entries where no index of the column has one for each group of the rows; else what is

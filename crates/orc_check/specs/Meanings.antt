@@ -5,16 +5,16 @@ use Rattle.orc_wire.specs.declared.stripe_footer.StripeFooter.{StripeFooter}
 use Rattle.orc_values.specs.Cells.{Cell}
 use Rattle.orc_values.specs.Shapes.{width}
 use Rattle.orc_column_reader.specs.Stripe.{HasFooter}
-use Rattle.orc_tail.specs.Stripes.{stripe_at}
-use Rattle.orc_file.specs.FileRows.{stripe_bytes, opened_stripe}
+use Rattle.orc_tail.specs.Stripes.{stripe_at, stripe_bytes}
+use Rattle.orc_file_reader.specs.FileRows.{opened_stripe}
 use Rattle.orc_tail.specs.declared.tail.Tail.{Tail}
 use Rattle.orc_check.specs.declared.finding.Finding.{Finding}
 use Rattle.orc_check.specs.declared.finding.Finding.TheVariants.{StripeStatistic, IndexEntries, IndexStatistic, IndexPosition, FileStatistic}
 use Rattle.orc_check.specs.Findings.{IndexedColumn, IsIndexedColumn, HasRightStatistic, HasRightPositions, TellsStripe, TellsFile, stripe_told, rows_at}
 
 -- the bytes of the stripe with this number
-abbrev pub text_of : List ℕ → Tail → ℕ → List ℕ
-text_of bytes tail n = stripe_bytes (stripe_at tail.stripes n) bytes
+abbrev pub numbered_stripe_bytes : List ℕ → Tail → ℕ → List ℕ
+numbered_stripe_bytes bytes tail n = stripe_bytes (stripe_at tail.stripes n) bytes
 
 -- the file has a stripe and a column with these numbers
 pub record HasColumn (tail : Tail) (n c : ℕ) : Type 0 where
@@ -28,8 +28,8 @@ pub record IsColumnOf (bytes : List ℕ) (tail : Tail) (parts : List (List Cell)
   pub there : HasColumn tail n c
   pub stride : 0 < tail.stride
   pub footer : StripeFooter
-  pub has_footer : HasFooter tail.schema (stripe_at tail.stripes n) (text_of bytes tail n) footer
-  pub column : IsIndexedColumn (opened_stripe tail n (text_of bytes tail n) footer) (rows_at parts n) c x
+  pub has_footer : HasFooter tail.schema (stripe_at tail.stripes n) (numbered_stripe_bytes bytes tail n) footer
+  pub column : IsIndexedColumn (opened_stripe tail n (numbered_stripe_bytes bytes tail n) footer) (rows_at parts n) c x
 
 -- What a finding says of a file with this tail, whose stripes have these rows. A statistic isn't that of the
 -- rows; a column's index isn't one with an entry for each group; an entry's statistic isn't that of its group,

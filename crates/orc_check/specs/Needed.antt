@@ -1,9 +1,9 @@
 -- Which columns' groups are needed: those whose row index may have an entry for each group (own; ORC specification, "Row
 -- Group Index").
 use Rattle.std.specs.Prelude.{ℕ, ◌<◌, ◌≤◌, Option, Some, None, List, length}
-use Rattle.orc_stripe_writer.specs.Groups.{group_count}
-use Rattle.orc_stripe.specs.IndexTexts.{listed}
-use Rattle.orc_stripe.specs.Opened.{Opened}
+use Rattle.orc_row_groups.specs.Groups.{group_count}
+use Rattle.orc_stripe_reader.specs.IndexTexts.{listed}
+use Rattle.orc_stripe_reader.specs.Opened.{Opened}
 
 -- there are bytes, and no fewer than so many entries
 abbrev pub HasRoom : ℕ → Option (List ℕ) → Type 0

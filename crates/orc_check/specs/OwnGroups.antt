@@ -4,7 +4,7 @@ use Rattle.std.specs.Prelude.{◌≡◌, ℕ, List, length}
 use Rattle.orc_values.specs.Cells.{Cell}
 use Rattle.orc_values.specs.Shapes.{Shape}
 use Rattle.orc_column_reader.specs.Stripe.{Streams, IsColumn}
-use Rattle.orc_row_index.specs.Bounds.{AreBounds}
+use Rattle.orc_row_groups.specs.Bounds.{AreBounds}
 use Rattle.orc_column_walk.specs.declared.found.GroupFound.{GroupFound}
 use Rattle.orc_check.specs.Walking.{AreGroups}
 

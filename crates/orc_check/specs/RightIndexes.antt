@@ -10,14 +10,14 @@ use Rattle.orc_wire.specs.StreamKinds.{ROW_INDEX}
 use Rattle.orc_values.specs.Cells.{Cell}
 use Rattle.orc_values.specs.Columns.{cells}
 use Rattle.orc_values.specs.Shapes.{Shape, width, shape_at}
-use Rattle.orc_column_reader.specs.Directory.{has_stream, slice}
+use Rattle.orc_directory.specs.Directory.{has_stream, slice}
 use Rattle.orc_column_reader.specs.Stripe.{Streams, HasFooter, columns_of}
-use Rattle.orc_row_index.specs.Bounds.{before_group, group_of}
+use Rattle.orc_row_groups.specs.Bounds.{before_group, group_of}
 use Rattle.orc_row_index.specs.Positions.{AreReadPositions}
-use Rattle.orc_stripe_writer.specs.Groups.{starts, bounds_of}
-use Rattle.orc_stripe.specs.GroupCursors.{HasGroup, StartsGroup}
-use Rattle.orc_tail.specs.Stripes.{stripe_at}
-use Rattle.orc_file.specs.FileRows.{stripe_bytes, opened_stripe, cut_rows}
+use Rattle.orc_row_groups.specs.Groups.{starts_of_groups, bounds_of}
+use Rattle.orc_stripe_reader.specs.GroupCursors.{HasGroup, StartsGroup}
+use Rattle.orc_tail.specs.Stripes.{stripe_at, stripe_bytes}
+use Rattle.orc_file_reader.specs.FileRows.{opened_stripe, cut_rows}
 use Rattle.orc_tail.specs.declared.tail.Tail.{Tail}
 use Rattle.orc_check.specs.Findings.{TellsGroup, rows_at}
 
@@ -39,7 +39,7 @@ abbrev pub HasAgreeingIndex : ℕ → Shape → List Cell → StripeFooter → L
 HasAgreeingIndex stride s rows footer bytes c =
     (has_stream c ROW_INDEX footer.streams ≡ true)
     × IsAgreeingIndex (shape_at s c) (columns_of footer bytes c) (cells s c rows)
-    (bounds_of s c rows (starts stride (length rows))) (slice c ROW_INDEX footer.streams bytes)
+    (bounds_of s c rows (starts_of_groups stride (length rows))) (slice c ROW_INDEX footer.streams bytes)
 
 -- Each column of a stripe has an index with an entry for each group of these rows: its statistic, of children perhaps
 -- less, and where a reader goes on.

@@ -7,26 +7,27 @@ use Rattle.orc_values.specs.Shapes.{Shape, Fields, width, widths, shape_at}
 use Rattle.orc_stats.specs.Kinds.{kind_of}
 use Rattle.orc_stats.specs.Statistics.{stat}
 use Rattle.orc_stats.specs.declared.stat.Stat.{Stat}
-use Rattle.orc_column_reader.specs.Located.{AreLocated}
-use Rattle.orc_column_reader.specs.Stripe.{SpellRows, columns_of, cell_limit}
-use Rattle.orc_row_index.specs.Bounds.{AreBounds, bound_at}
+use Rattle.orc_directory.specs.Located.{AreLocated}
+use Rattle.orc_column_reader.specs.Stripe.{SpellRows, columns_of}
+use Rattle.orc_values.specs.Limits.{cell_limit}
+use Rattle.orc_row_groups.specs.Bounds.{AreBounds, bound_at}
 use Rattle.orc_column_walk.specs.ColumnFound.{IsGroupFound, bounds_below}
 use Rattle.orc_column_walk.specs.OwnLeft.{children}
 use Rattle.orc_column_walk.specs.declared.found.GroupFound.{GroupFound}
 use Rattle.orc_column_walk.specs.declared.found.ColumnFound.{ColumnFound}
-use Rattle.orc_stripe_writer.specs.Groups.{starts, bounds_of, AreGroupsFrom, AreFieldGroupsFrom}
-use Rattle.orc_stripe_writer.specs.Subtrees.{AreColumnsFrom, AreFieldsFrom, FieldsFit}
-use Rattle.orc_stripe.specs.IndexTexts.{AreIndexTexts}
-use Rattle.orc_stripe.specs.Opened.{Opened}
+use Rattle.orc_row_groups.specs.Groups.{starts_of_groups, bounds_of, AreGroupsFrom, AreFieldGroupsFrom}
+use Rattle.orc_row_groups.specs.Subtrees.{AreColumnsFrom, AreFieldsFrom, FieldsFit}
+use Rattle.orc_stripe_reader.specs.IndexTexts.{AreIndexTexts}
+use Rattle.orc_stripe_reader.specs.Opened.{Opened}
 use Rattle.orc_check.specs.declared.finding.Finding.{Finding}
 use Rattle.orc_check.specs.declared.columns.CellGroups.{CellGroups}
 use Rattle.orc_check.specs.declared.open_stripe.OpenStripe.{OpenStripe}
 use Rattle.orc_check.specs.Checking.{HaveKnown}
-use Rattle.orc_check.specs.Findings.{Adds, OfEach, OfColumn}
+use Rattle.orc_check.specs.Findings.{AddsFindings, OfEach, OfColumn}
 use Rattle.orc_check.specs.Needed.{MayBeWhole, NeedGroups}
 
 -- its columns have encodings, their streams are found, and the bytes of their row indexes
-pub record IsLaidOut (stripe : OpenStripe) : Type 0 where
+pub record HasStripeParts (stripe : OpenStripe) : Type 0 where
   pub columns : length stripe.view.now.footer.columns ≡ width stripe.view.now.schema
   pub same : stripe.located.bytes.now ≡ stripe.view.now.bytes
   pub located : AreLocated (length stripe.view.now.footer.columns) stripe.view.now.footer.streams
@@ -53,7 +54,7 @@ pub record ComesNext (view : Opened) (rows : List Cell) (c : ℕ) (t : Shape) (h
   pub counted : length here ≡ groups.count
   pub columns : AreColumnsFrom view.schema rows c t here
   pub bounded : NeedGroups view c (c + width t)
-      → AreGroupsFrom view.schema rows (starts view.stride (length rows)) c t here groups.bounds.items
+      → AreGroupsFrom view.schema rows (starts_of_groups view.stride (length rows)) c t here groups.bounds.items
 
 -- the same of the fields of so many structs
 pub record FieldsComeNext (view : Opened) (rows : List Cell) (c : ℕ) (fs : Fields) (structs : List (List Cell))
@@ -63,12 +64,12 @@ pub record FieldsComeNext (view : Opened) (rows : List Cell) (c : ℕ) (fs : Fie
   pub fit : FieldsFit fs structs
   pub columns : AreFieldsFrom view.schema rows c fs structs
   pub bounded : NeedGroups view c (c + widths fs)
-      → AreFieldGroupsFrom view.schema rows (starts view.stride (length rows)) c fs structs groups.bounds.items
+      → AreFieldGroupsFrom view.schema rows (starts_of_groups view.stride (length rows)) c fs structs groups.bounds.items
 
 -- So many children have the cells of column c, whose type is t; where its groups or those of a column below are needed, so
 -- many of these come before each group.
-abbrev pub AreBelow : Opened → ℕ → Shape → List Cell → CellGroups → CellGroups → Type 0
-AreBelow view c t column groups below =
+abbrev pub AreChildGroups : Opened → ℕ → Shape → List Cell → CellGroups → CellGroups → Type 0
+AreChildGroups view c t column groups below =
     (below.count ≡ children t (values column))
     × (NeedGroups view c (c + width t) → below.bounds.items ≡ bounds_below t column groups.bounds.items)
 
@@ -78,25 +79,25 @@ AreGroups s cells bounds groups =
     (g : ℕ) (group : GroupFound) → slice_get groups g ≡ Some group → IsGroupFound s cells bounds g group
 
 -- what is found of the groups of column c, whose type is t
-pub record AreGroupsFound (view : Opened) (rows : List Cell) (c : ℕ) (t : Shape) (groups : List GroupFound) : Type 0 where
+pub record AreColumnGroupsFound (view : Opened) (rows : List Cell) (c : ℕ) (t : Shape) (groups : List GroupFound) : Type 0 where
   pub spelled : SpellsRows view rows
   pub type : shape_at view.schema c ≡ t
-  pub counted : length groups ≡ length (bounds_of view.schema c rows (starts view.stride (length rows)))
+  pub counted : length groups ≡ length (bounds_of view.schema c rows (starts_of_groups view.stride (length rows)))
   pub ascending : AreBounds (length (cells view.schema c rows))
-      (bounds_of view.schema c rows (starts view.stride (length rows)))
+      (bounds_of view.schema c rows (starts_of_groups view.stride (length rows)))
   pub are : AreGroups t (cells view.schema c rows)
-      (bounds_of view.schema c rows (starts view.stride (length rows))) groups
+      (bounds_of view.schema c rows (starts_of_groups view.stride (length rows))) groups
 
 -- what is found of the column: its statistic, and its groups where they are needed
 pub record IsFoundInRows (view : Opened) (rows : List Cell) (c : ℕ) (t : Shape) (found : ColumnFound) : Type 0 where
   pub counted : length rows ≡ view.info.number_of_rows
   pub type : shape_at view.schema c ≡ t
   pub stat_is : found.stat ≡ stat (kind_of t) (cells view.schema c rows)
-  pub groups : MayBeWhole view c → AreGroupsFound view rows c t found.groups.items
+  pub groups : MayBeWhole view c → AreColumnGroupsFound view rows c t found.groups.items
 
 -- What is found of the first n columns stands behind what was found before, and these are the statistics of their
 -- cells, as far as they are told.
 pub record AreColumnsChecked (view : Opened) (told : List Stat) (number : ℕ) (rows : List Cell) (n : ℕ)
     (before after : List Finding) (stats : List Stat) : Type 0 where
-  pub found : Adds (OfEach (OfColumn view told number rows) n) before after
+  pub found : AddsFindings (OfEach (OfColumn view told number rows) n) before after
   pub known : HaveKnown view.schema told rows n stats

@@ -2,7 +2,7 @@
 ghost use Rattle.std.specs.Prelude.{◌≡◌, ◌⊎◌, List, length, IfOk, IfErr, IfSome, MatchResult};
 ghost use Rattle.orc_values.specs.Cells.{Cell};
 ghost use Rattle.orc_io.specs.Leaves.{LeavesSource};
-ghost use Rattle.orc_file.specs.FileRows.{FileIs, FirstRefused};
+ghost use Rattle.orc_file_reader.specs.FileRows.{FileIs, FirstRefused};
 ghost use Rattle.orc_tail.specs.Images.{IsWithinLimits};
 ghost use Rattle.orc_tail.specs.Stripes.{AllBefore};
 ghost use Rattle.orc_tail.specs.Tails.{IsTail, ReadFault};
@@ -14,8 +14,9 @@ ghost use Rattle.orc_check.specs.Checking.{CheckFault, HaveOwn, IsWholeOf, IsOfS
 use crate::file_columns::check_file;
 use crate::finding::Finding;
 use crate::stripes::check_stripe;
-use orc_file::{FileFault, Source, Tail, file_statistics, read_tail};
+use orc_io::Source;
 use orc_stats::{Stat, StatFault};
+use orc_tail::{FileFault, Tail, file_statistics, read_tail};
 use orc_types::Schema;
 use orc_wire::Items;
 use std::alloc::{AllocError, Global};

@@ -6,18 +6,18 @@ ghost use Rattle.orc_values.specs.Shapes.{width, widths};
 ghost use Rattle.orc_values.specs.Views.{shape, fields as fields_view};
 ghost use Rattle.orc_column_reader.specs.Faults.{RowsFault};
 ghost use Rattle.orc_column_reader.specs.Stripe.{IsStripe, columns_of};
-ghost use Rattle.orc_column_reader.specs.declared.fault.StripeFault.TheVariants.{OutOfMemory};
-ghost use Rattle.orc_row_index.specs.Bounds.{AreBounds, bound_at};
+ghost use Rattle.orc_directory.specs.declared.fault.StripeFault.TheVariants.{OutOfMemory};
+ghost use Rattle.orc_row_groups.specs.Bounds.{AreBounds, bound_at};
 ghost use Rattle.orc_column_walk.specs.OwnColumns.{IsOwnColumn, OwnDown, OwnWithin};
-ghost use Rattle.orc_column_walk.specs.OwnFaults.{IsRefused, RefusedDown, RefusedWithin};
+ghost use Rattle.orc_column_walk.specs.OwnFaults.{SpellsNoCells, RefusedDown, RefusedWithin};
 ghost use Rattle.orc_column_walk.specs.OwnLeft.{children};
-ghost use Rattle.orc_stripe_writer.specs.Groups.{starts};
+ghost use Rattle.orc_row_groups.specs.Groups.{starts_of_groups};
 ghost use Rattle.orc_check.specs.declared.finding.Finding.{Finding as Reported};
 ghost use Rattle.orc_check.specs.Checking.{HaveKnown};
-ghost use Rattle.orc_check.specs.Findings.{Adds, OfEach, OfColumn};
+ghost use Rattle.orc_check.specs.Findings.{AddsFindings, OfEach, OfColumn};
 ghost use Rattle.orc_check.specs.Needed.{NeedGroups};
 ghost use Rattle.orc_check.specs.OwnGroups.{HaveCells};
-ghost use Rattle.orc_check.specs.Walking.{IsLaidOut, AreGrouped, ComesNext, FieldsComeNext, AreBelow, IsFoundInRows, AreColumnsChecked};
+ghost use Rattle.orc_check.specs.Walking.{HasStripeParts, AreGrouped, ComesNext, FieldsComeNext, AreChildGroups, IsFoundInRows, AreColumnsChecked};
 
 use crate::agreeing::{keep_told, tells};
 use crate::finding::Finding;
@@ -25,12 +25,12 @@ use crate::needed::need_groups;
 use crate::open_stripe::OpenStripe;
 use crate::reports::report;
 use crate::row_index::check_index;
-use orc_column_reader::{MOST_CELLS, StripeFault};
 use orc_column_walk::{ColumnFound, read_groups};
+use orc_directory::StripeFault;
+use orc_row_groups::group_starts;
 use orc_stats::Stat;
-use orc_stripe::StripeView;
-use orc_stripe_writer::group_starts;
-use orc_values::{Field, Tree, width_of};
+use orc_stripe_reader::StripeView;
+use orc_values::{Field, MOST_CELLS, Tree, width_of};
 use orc_wire::Items;
 use std::alloc::{AllocError, Global};
 
@@ -47,11 +47,11 @@ fn firsts_of(
     stripe: &OpenStripe<'_, '_>,
     rows: usize,
 ) -> Result<Vec<usize>, AllocError>
-    requires laid_out { IsLaidOut stripe.now }
+    requires laid_out { HasStripeParts stripe.now }
     ensures bounds { IfOk result (λ firsts. AreBounds rows firsts.items) }
     ensures first { IfOk result (λ firsts. bound_at rows firsts.items 0 ≡ 0) }
     ensures needed { IfOk result (λ firsts. NeedGroups stripe.now.view.now 0 (width stripe.now.view.now.schema)
-        → firsts.items ≡ starts stripe.now.view.now.stride rows) }
+        → firsts.items ≡ starts_of_groups stripe.now.view.now.stride rows) }
 {
     if need_groups(stripe, 0, stripe.texts.len()) {
         return group_starts(alloc, stripe.view.stride() as usize, rows);
@@ -67,7 +67,7 @@ fn group_bounds<'c>(
     column: usize,
     cells: &'c CellGroups,
 ) -> &'c [usize]
-    requires laid_out { IsLaidOut stripe.now }
+    requires laid_out { HasStripeParts stripe.now }
     requires there { column + width (shape tree.now) ≤ width stripe.now.view.now.schema }
     requires grouped { AreGrouped cells.now }
     ensures bounds { AreBounds cells.now.count result.now }
@@ -90,12 +90,12 @@ fn check_column(
     read: &ColumnFound,
     found: &mut Vec<Finding>,
 ) -> Result<(), AllocError>
-    requires laid_out { IsLaidOut stripe.now }
+    requires laid_out { HasStripeParts stripe.now }
     requires there { column < width stripe.now.view.now.schema }
     requires own { HaveCells (shape tree.now) (columns_of stripe.now.view.now.footer stripe.now.view.now.bytes column)
         read.now.groups.items }
     ensures { OnOk result ((rows : List Cell) → IsFoundInRows stripe.now.view.now rows column (shape tree.now) read.now
-        → Adds (OfColumn stripe.now.view.now stripe.now.told.now stripe.now.number rows column)
+        → AddsFindings (OfColumn stripe.now.view.now stripe.now.told.now stripe.now.number rows column)
         found.old.items found.new.items) }
 {
     report(
@@ -141,7 +141,7 @@ fn add_column(
     found: &mut Vec<Finding>,
     stats: &mut Vec<Stat>,
 ) -> Result<CellGroups, StripeFault>
-    requires laid_out { IsLaidOut stripe.now }
+    requires laid_out { HasStripeParts stripe.now }
     requires there { column + width (shape tree.now) ≤ width stripe.now.view.now.schema }
     requires grouped { AreGrouped cells.now }
     ensures found { IfOk result (λ below. (own : List Cell)
@@ -151,7 +151,7 @@ fn add_column(
     ensures grouped { IfOk result AreGrouped }
     ensures rows { IfOk result (λ below. (rows here : List Cell)
         → ComesNext stripe.now.view.now rows column (shape tree.now) here cells.now
-        → AreBelow stripe.now.view.now column (shape tree.now) here cells.now below) }
+        → AreChildGroups stripe.now.view.now column (shape tree.now) here cells.now below) }
     ensures checked { OnOk result ((rows here : List Cell) (before : List Reported)
         → ComesNext stripe.now.view.now rows column (shape tree.now) here cells.now
         → AreColumnsChecked stripe.now.view.now stripe.now.told.now stripe.now.number rows column before
@@ -160,7 +160,7 @@ fn add_column(
         found.new.items stats.new.items) }
     ensures fault { IfErr result (λ cause. cause ≢ OutOfMemory
         → (all : Bool)
-        × IsRefused (shape tree.now) (columns_of stripe.now.view.now.footer stripe.now.view.now.bytes column)
+        × SpellsNoCells (shape tree.now) (columns_of stripe.now.view.now.footer stripe.now.view.now.bytes column)
         column all cells.now.count cause) }
 {
     let read = read_groups(
@@ -189,7 +189,7 @@ fn check_tree(
     found: &mut Vec<Finding>,
     stats: &mut Vec<Stat>,
 ) -> Result<usize, StripeFault>
-    requires laid_out { IsLaidOut stripe.now }
+    requires laid_out { HasStripeParts stripe.now }
     requires there { column + width (shape tree.now) ≤ width stripe.now.view.now.schema }
     requires grouped { AreGrouped cells.now }
     ensures found { OnOk result (OwnDown (shape tree.now)
@@ -234,7 +234,7 @@ fn check_fields(
     found: &mut Vec<Finding>,
     stats: &mut Vec<Stat>,
 ) -> Result<usize, StripeFault>
-    requires laid_out { IsLaidOut stripe.now }
+    requires laid_out { HasStripeParts stripe.now }
     requires there { column + widths (fields_view fields.now) ≤ width stripe.now.view.now.schema }
     requires grouped { AreGrouped cells.now }
     ensures found { OnOk result (OwnWithin (fields_view fields.now)
@@ -273,7 +273,7 @@ pub(crate) fn check_columns(
 ) -> Result<Items<Stat>, StripeFault>
     ensures found { IfOk result (λ stats. (rows : List Cell)
         × IsStripe view.now.schema view.now.info view.now.bytes rows
-        × Adds (OfEach (OfColumn view.now told.now number rows) (width view.now.schema))
+        × AddsFindings (OfEach (OfColumn view.now told.now number rows) (width view.now.schema))
         found.old.items found.new.items
         × HaveKnown view.now.schema told.now rows (width view.now.schema) stats) }
     ensures fault { IfErr result (λ cause. cause ≢ OutOfMemory

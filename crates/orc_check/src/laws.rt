@@ -1,23 +1,20 @@
 //! Laws of findings. Each function does nothing: its contract is what it is for.
 ghost use Rattle.std.specs.Prelude.{◌≡◌, ◌↔◌, ℕ, List, [], Contains};
 ghost use Rattle.orc_values.specs.Cells.{Cell};
-ghost use Rattle.orc_values.specs.Shapes.{Shape};
-ghost use Rattle.orc_stripe_writer.specs.declared.options.Options.{Options};
-ghost use Rattle.orc_file.specs.FileRows.{FileIs, cut_rows};
-ghost use Rattle.orc_file.specs.Honest.{Honest};
-ghost use Rattle.orc_file.specs.Writing.{IsWrittenFile};
+ghost use Rattle.orc_file_reader.specs.FileRows.{FileIs, cut_rows};
+ghost use Rattle.orc_file_reader.specs.Honest.{Honest};
 ghost use Rattle.orc_tail.specs.declared.tail.Tail.{Tail};
 ghost use Rattle.orc_check.specs.declared.finding.Finding.{Finding};
 ghost use Rattle.orc_check.specs.Findings.{Findings, TellsWhole};
 ghost use Rattle.orc_check.specs.Meanings.{IsSo};
 ghost use Rattle.orc_check.specs.RightIndexes.{HasIndexes, StartsAtGroups};
 
-use orc_stripe::group_laws;
+use orc_stripe_reader::group_laws;
 
 /// Of a file one list of findings stands at most. A finding is in it exactly where what it says of the file is
 /// so. It is empty exactly where the statistics of each stripe and of the whole file are those of the rows, but
 /// for parts of children that they don't know, and, in a file with a stride, each column of each stripe has a
-/// row index of which the same holds. Nothing is found of a file as it is written.
+/// row index of which the same holds.
 pub fn finding_laws()
     // A file has at most one list of findings.
     ensures one { (bytes : List ℕ) (tail : Tail) (rows : List Cell) (a b : List Finding)
@@ -35,11 +32,6 @@ pub fn finding_laws()
     // statistics, and a file statistic has no sum if the sum of some stripe doesn't fit 64 bits.
     ensures none { (bytes : List ℕ) (tail : Tail) (rows : List Cell) → FileIs bytes tail rows
         → Findings bytes tail rows [] ↔ (Honest tail rows × TellsWhole tail rows × HasIndexes bytes tail rows) }
-    // If bytes are laid out as a writer writes a file of some rows, with any stride, and are a file with these
-    // rows, then the file has no findings.
-    ensures written { (options : Options) (s : Shape) (tail : Tail) (bytes : List ℕ) (rows : List Cell)
-        → IsWrittenFile options s tail bytes rows
-        → FileIs bytes tail rows → Findings bytes tail rows [] }
 {}
 
 /// Where nothing is found of a file, each of its stripes starts at each of its groups (`StartsGroup`), which is

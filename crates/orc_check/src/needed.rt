@@ -3,13 +3,13 @@
 ghost use Rattle.std.specs.Prelude.{◌<◌, ◌≤◌, MatchBool};
 ghost use Rattle.orc_values.specs.Shapes.{width};
 ghost use Rattle.orc_check.specs.Needed.{MayBeWhole, NeedGroups};
-ghost use Rattle.orc_check.specs.Walking.{IsLaidOut};
+ghost use Rattle.orc_check.specs.Walking.{HasStripeParts};
 
 use crate::open_stripe::OpenStripe;
 
 /// Whether a column's row index may have an entry for each group of the stripe's rows: an entry takes a byte or more.
 pub(crate) fn may_be_whole(stripe: &OpenStripe<'_, '_>, column: usize) -> bool
-    requires laid_out { IsLaidOut stripe.now }
+    requires laid_out { HasStripeParts stripe.now }
     requires there { column < width stripe.now.view.now.schema }
     ensures { MatchBool result
         (MayBeWhole stripe.now.view.now column)
@@ -29,7 +29,7 @@ pub(crate) fn may_be_whole(stripe: &OpenStripe<'_, '_>, column: usize) -> bool
 
 /// Whether the groups of some column are needed, of those from the first one on and before the end.
 pub(crate) fn need_groups(stripe: &OpenStripe<'_, '_>, first: usize, end: usize) -> bool
-    requires laid_out { IsLaidOut stripe.now }
+    requires laid_out { HasStripeParts stripe.now }
     requires there { end ≤ width stripe.now.view.now.schema }
     ensures { MatchBool result
         (NeedGroups stripe.now.view.now first end)

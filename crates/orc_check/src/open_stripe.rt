@@ -1,7 +1,7 @@
 //! A stripe whose columns are checked.
-use orc_column_reader::Located;
+use orc_directory::Located;
 use orc_stats::Stat;
-use orc_stripe::{IndexText, StripeView};
+use orc_stripe_reader::{IndexText, StripeView};
 
 /// A stripe with its number, what the tail tells of its columns, and where these and their row indexes stand.
 #[derive(Drop)]

@@ -4,13 +4,14 @@ ghost use Rattle.orc_values.specs.Cells.{Cell};
 ghost use Rattle.orc_values.specs.Fits.{RowsFit};
 ghost use Rattle.orc_values.specs.Shapes.{width};
 ghost use Rattle.orc_values.specs.Views.{shape};
-ghost use Rattle.orc_column_reader.specs.Stripe.{Streams, cell_limit, columns_of};
+ghost use Rattle.orc_column_reader.specs.Stripe.{Streams, columns_of};
+ghost use Rattle.orc_values.specs.Limits.{cell_limit};
 ghost use Rattle.orc_column_walk.specs.declared.found.GroupFound.{GroupFound as Group};
 ghost use Rattle.orc_row_index_check.specs.Decided.{AreDecided};
-ghost use Rattle.orc_check.specs.Findings.{Adds, IndexedColumn, OfGroups, OfIndex};
+ghost use Rattle.orc_check.specs.Findings.{AddsFindings, IndexedColumn, OfGroups, OfIndex};
 ghost use Rattle.orc_check.specs.Needed.{MayBeWhole};
 ghost use Rattle.orc_check.specs.OwnGroups.{HaveCells};
-ghost use Rattle.orc_check.specs.Walking.{IsLaidOut, AreGroups, AreGroupsFound};
+ghost use Rattle.orc_check.specs.Walking.{HasStripeParts, AreGroups, AreColumnGroupsFound};
 
 use crate::entries::entry_tells;
 use crate::finding::Finding;
@@ -20,9 +21,9 @@ use crate::reports::report;
 use crate::written_index::is_written;
 use orc_column_reader::streams_of;
 use orc_column_walk::GroupFound;
-use orc_row_index::Counts;
+use orc_row_groups::Counts;
 use orc_row_index_check::positions_right_behind;
-use orc_stripe::read_index;
+use orc_stripe_reader::read_index;
 use orc_values::Tree;
 use orc_wire::RowIndexEntry;
 use std::alloc::{AllocError, Global};
@@ -70,7 +71,7 @@ fn check_groups(
         RowsFit x.shape cells → length cells < cell_limit
         → AreGroups x.shape cells bounds groups.now
         → AreDecided x.shape streams cells bounds entries.now right.now
-        → Adds (OfGroups x number column) found.old.items found.new.items) }
+        → AddsFindings (OfGroups x number column) found.old.items found.new.items) }
 {
     for group in 0..entries.len() {
         let tells = entry_tells(tree, &entries[group], &groups[group].stat);
@@ -94,15 +95,15 @@ pub(crate) fn check_index(
     groups: &[GroupFound],
     found: &mut Vec<Finding>,
 ) -> Result<(), AllocError>
-    requires laid_out { IsLaidOut stripe.now }
+    requires laid_out { HasStripeParts stripe.now }
     requires there { column < width stripe.now.view.now.schema }
     requires own { HaveCells (shape tree.now) (columns_of stripe.now.view.now.footer stripe.now.view.now.bytes column)
         groups.now }
     ensures { OnOk result ((rows : List Cell) → 0 < stripe.now.view.now.stride
         → length rows ≡ stripe.now.view.now.info.number_of_rows
         → (MayBeWhole stripe.now.view.now column
-        → AreGroupsFound stripe.now.view.now rows column (shape tree.now) groups.now)
-        → Adds (OfIndex stripe.now.view.now stripe.now.number rows column) found.old.items found.new.items) }
+        → AreColumnGroupsFound stripe.now.view.now rows column (shape tree.now) groups.now)
+        → AddsFindings (OfIndex stripe.now.view.now stripe.now.number rows column) found.old.items found.new.items) }
 {
     let finding = Finding::IndexEntries(stripe.number, column);
     if !may_be_whole(stripe, column) {

@@ -1,9 +1,8 @@
 //! A stripe of a file.
 ghost use Rattle.std.specs.Prelude.{◌≡◌, ◌<◌, ◌≤◌, ◌⊎◌, length, OnOk, IfOk, IfErr, IfSome};
 ghost use Rattle.orc_io.specs.Leaves.{LeavesSource};
-ghost use Rattle.orc_tail.specs.Stripes.{AllBefore, most_bytes, stripe_at, stripes_length};
-ghost use Rattle.orc_file.specs.FileRows as rows;
-ghost use Rattle.orc_file.specs.FileRows.{StripeRefused};
+ghost use Rattle.orc_tail.specs.Stripes.{AllBefore, most_bytes, stripe_at, stripes_length, stripe_bytes};
+ghost use Rattle.orc_file_reader.specs.FileRows.{StripeRefused};
 ghost use Rattle.orc_tail.specs.Tails.{ReadFault};
 ghost use Rattle.orc_tail.specs.declared.fault.FileFault.TheVariants.{SourceFailed, OutOfMemory};
 ghost use Rattle.orc_check.specs.Findings.{stripe_told};
@@ -11,10 +10,10 @@ ghost use Rattle.orc_check.specs.Checking.{IsChecked, IsOfStripe};
 
 use crate::columns::check_columns;
 use crate::finding::Finding;
-use orc_file::{FileFault, Tail, load_stripe, view_stripe};
+use orc_file_reader::{load_stripe, view_stripe};
 use orc_io::Source;
 use orc_stats::Stat;
-use orc_tail::stripe_fault;
+use orc_tail::{FileFault, Tail, stripe_fault};
 use orc_wire::Items;
 use std::alloc::Global;
 
@@ -44,7 +43,7 @@ pub(crate) fn check_stripe<S: Source>(
     ensures found { IfOk result
         (λ stats. IsChecked tail.now number bytes.new.items found.old.items found.new.items stats) }
     ensures bytes { OnOk result (IfSome (S.told source.old)
-        (λ all. bytes.new.items ≡ rows.stripe_bytes (stripe_at tail.now.stripes number) all)) }
+        (λ all. bytes.new.items ≡ stripe_bytes (stripe_at tail.now.stripes number) all)) }
     ensures fault { IfErr result (λ fault. ReadFault (S.told source.old) fault
         (λ all. StripeRefused tail.now.schema all number (stripe_at tail.now.stripes number) fault)) }
     ensures named { IfErr result (λ fault. (fault ≡ OutOfMemory)

@@ -12,7 +12,7 @@ use Rattle.clap.specs.declared.parser.matches.ValueSource.{ValueSource}
 use Rattle.clap.proofs.WalkLemmas.{find_row, first_value-rows}
 use Rattle.orc_rle.specs.declared.sign.Rle.{Rle}
 use Rattle.orc_rle.specs.declared.sign.Sign.{Sign}
-use Rattle.orc_stripe_writer.specs.declared.options.Options.{Options}
+use Rattle.orc_row_batch.specs.declared.options.Options.{Options}
 use Rattle.orc_cli_args.specs.declared.request.Request.{Request}
 use Rattle.orc_cli_args.specs.Requests.{Asks, HasInts, HasWrite, IsUnderstood, ints, rows, show, check, write, merge, IsNotUnderstood, command_rows, origin_of, IsNoNumber, IsUnread, TakesNumber}
 

@@ -9,23 +9,12 @@ use Rattle.clap.specs.declared.parser.matches.Found.{Found}
 use Rattle.clap.specs.declared.parser.matches.ValueSource.{ValueSource}
 use Rattle.clap.specs.declared.parser.matches.ValueSource.TheVariants.{CommandLine}
 use Rattle.orc_rle.specs.declared.sign.Rle.{Rle}
-use Rattle.orc_rle.specs.declared.sign.Rle.TheVariants.{One, Two}
 use Rattle.orc_rle.specs.declared.sign.Sign.{Sign}
-use Rattle.orc_rle.specs.declared.sign.Sign.TheVariants.{Signed, Unsigned}
-use Rattle.orc_stripe_writer.specs.declared.options.Options.{Options}
-use Rattle.orc_cli_output.specs.Numbers.{IsNumber}
+use Rattle.orc_row_batch.specs.declared.options.Options.{Options}
+use Rattle.orc_cli_output.specs.Numbers.{IsDecimalNumber}
 use Rattle.orc_cli_args.specs.declared.request.Request.{Request}
 use Rattle.orc_cli_args.specs.declared.request.Request.TheVariants.{Ints, Rows, Show, Check, Write, Merge}
-
--- the word of a version of the integer run lengths
-abbrev pub version_word : Rle → List ℕ
-version_word One = codes "1"
-version_word Two = codes "2"
-
--- the word of a sign
-abbrev pub sign_word : Sign → List ℕ
-sign_word Signed = codes "s"
-sign_word Unsigned = codes "u"
+use Rattle.orc_cli_parser.specs.OptionWords.{version_word, sign_word}
 
 -- the words behind the name of a command
 abbrev pub command_word : Request → List ℕ
@@ -46,7 +35,7 @@ pub record HasInts (found : Found) (rle : Rle) (sign : Sign) (hex : List ℕ) : 
 pub record HasNumber (found : Found) (option : List ℕ) (n : ℕ) : Type 0 where
   pub word : List ℕ
   pub given : first_value found option ≡ Some word
-  pub is : IsNumber word n
+  pub is : IsDecimalNumber word n
 
 -- the words of `write` have these values
 pub record HasWrite (found : Found) (schema : List ℕ) (options : Options) (input output : List ℕ) : Type 0 where
@@ -118,7 +107,7 @@ TakesNumber option = (option ≡ codes "stride") ⊎ (option ≡ codes "stripe-r
 
 -- there is a value, and it is no number in decimal digits alone
 abbrev pub IsNoNumber : Option (List ℕ) → Type 0
-IsNoNumber value = IsSomeAnd value (λ digits. (n : ℕ) → IsNumber digits n → ⊥)
+IsNoNumber value = IsSomeAnd value (λ digits. (n : ℕ) → IsDecimalNumber digits n → ⊥)
 
 -- the option has a value among them, and it is no number
 abbrev pub IsUnread : ArgMatches → List ℕ → Type 0

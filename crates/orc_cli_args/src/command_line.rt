@@ -4,14 +4,15 @@ ghost use Rattle.clap.specs.Values.{kind_of};
 ghost use Rattle.clap.specs.declared.error.kind.ErrorKind.TheVariants as kind;
 ghost use Rattle.orc_tail.specs.declared.fault.FileFault.TheVariants as file;
 ghost use Rattle.orc_cli_output.specs.declared.fault.CliFault.TheVariants.{File};
-ghost use Rattle.orc_cli_args.specs.Commands.{IsFound, HasFault, IsAskedIn, IsNotAskedIn};
+ghost use Rattle.orc_cli_args.specs.Commands.{IsFound, WordsFail, IsAskedIn, IsNotAskedIn};
 ghost use Rattle.orc_cli_args.specs.declared.command_line.Refusal.TheVariants.{Fault, NotUnderstood};
 
-use crate::commands::{MOST_STRIDE, orcm};
 use clap::error::ErrorKind;
 use clap::{ArgMatches, Error};
 use orc_cli_output::CliFault;
-use orc_tail::{FileFault, MOST_STRIPE_ROWS};
+use orc_cli_parser::{MOST_STRIDE, orcm};
+use orc_tail::FileFault;
+use orc_values::MOST_STRIPE_ROWS;
 use std::alloc::Global;
 use std::convert::AsStr;
 use std::rt::Env;
@@ -171,7 +172,7 @@ pub fn matches_of<'a, S: AsStr>(alloc: Global, words: &'a [S]) -> Result<ArgMatc
     ensures found { IfOk result (IsFound (map S.text words.entry.now)) }
     // A refusal is want of memory, or of a kind of fault that the words have by that table.
     ensures refused { IfErr result (λ error. (kind_of error ≡ kind.OutOfMemory)
-        ⊎ HasFault (map S.text words.entry.now) (kind_of error)) }
+        ⊎ WordsFail (map S.text words.entry.now) (kind_of error)) }
 {
     orcm(alloc)?.try_get_matches_from(words)
 }

@@ -2,11 +2,9 @@
 #![tactic(auto)]
 
 mod command_line;
-mod commands;
 mod files;
-mod help;
 mod request;
 
 pub use command_line::{Asked, Refusal, matches_of, read_words, words_of};
 pub use files::{new_file, source_of};
-pub use request::{Request, SIGNS, VERSIONS, request_of, unread_number, wants_progress};
+pub use request::{Request, request_of, unread_number, wants_progress};

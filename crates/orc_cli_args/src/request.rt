@@ -7,15 +7,16 @@ ghost use Rattle.clap.specs.declared.parser.matches.Found.{Found};
 ghost use Rattle.clap.specs.declared.parser.matches.ValueSource.TheVariants.{CommandLine};
 ghost use Rattle.orc_rle.specs.declared.sign.Rle.{Rle};
 ghost use Rattle.orc_rle.specs.declared.sign.Sign.{Sign};
-ghost use Rattle.orc_stripe_writer.specs.declared.options.Options.{Options};
-ghost use Rattle.orc_cli_args.specs.Requests.{Asks, version_word, sign_word, command_word, HasInts, HasWrite, IsNotUnderstood};
+ghost use Rattle.orc_row_batch.specs.declared.options.Options.{Options};
+ghost use Rattle.orc_cli_args.specs.Requests.{Asks, command_word, HasInts, HasWrite, IsNotUnderstood};
+ghost use Rattle.orc_cli_parser.specs.OptionWords.{version_word, sign_word};
 ghost use Rattle.orc_cli_args.specs.Requests.{origin_of, HasProgress, TakesNumber, IsNoNumber, IsUnread};
 
 use clap::ArgMatches;
 use clap::parser::ValueSource;
 use orc_cli_output::number_of;
 use orc_rle::{Rle, Sign};
-use orc_stripe::Options;
+use orc_row_batch::Options;
 
 /// What a command line asks for. Its words are `'a`'s, and lists of them stand in what the parser found.
 #[derive(Clone, Copy, Debug, PartialEq, Eq)]
@@ -52,12 +53,6 @@ pub enum Request<'m, 'a> {
         inputs: &'m [&'a str],
     },
 }
-
-/// The words that `--rle` takes.
-pub static VERSIONS: [&str; 2] = ["1", "2"];
-
-/// The words that `--sign` takes.
-pub static SIGNS: [&str; 2] = ["s", "u"];
 
 /// The version of the integer run lengths that a word of `--rle` stands for.
 fn version_of(word: &str) -> Option<Rle>

@@ -4,7 +4,7 @@ use Rattle.std.specs.Option.{IfSome}
 use Rattle.orc_values.specs.Cells.{Cell}
 use Rattle.orc_values.specs.Shapes.{Shape}
 use Rattle.orc_wire.specs.declared.stripe_info.StripeInfo.{StripeInfo}
-use Rattle.orc_file.specs.FileRows.{FileIs, FirstRefused}
+use Rattle.orc_file_reader.specs.FileRows.{FileIs, FirstRefused}
 use Rattle.orc_tail.specs.Tails.{ReadFault}
 use Rattle.orc_tail.specs.declared.tail.Tail.{Tail}
 use Rattle.orc_tail.specs.declared.fault.FileFault.{FileFault}
@@ -14,6 +14,7 @@ use Rattle.orc_cli_output.specs.Output.{write_failed}
 use Rattle.orc_cli_output.specs.declared.fault.CliFault.TheVariants.{File}
 use Rattle.orc_cli_check.specs.Lines.{IsSourceOrMemory}
 use Rattle.orc_check.specs.Checking.{CheckFault}
+use Rattle.orc_cli_output.proofs.OutputLemmas.{same_file}
 
 -- ---- what a refusal isn't
 
@@ -25,9 +26,6 @@ never_refused s bytes n (i ∷ is) (inr h) = never_refused s bytes (n + 1) is h.
 never_failed : (bytes : List ℕ) → CheckFault bytes WriteFailed → ⊥
 never_failed bytes (inl h) = never_output bytes h
 never_failed bytes (inr h) = never_refused h.0.schema bytes 0 h.0.stripes h.2
-
-same_file : (why other : FileFault) → File why ≡ File other → why ≡ other
-same_file why other e = cc
 
 -- checking writes nothing
 pub no_output : (told : Option (List ℕ)) (why : FileFault) (P : List ℕ → Type 0) → ReadFault told why (λ bytes. CheckFault bytes why) → File why ≡ write_failed → IfSome told P

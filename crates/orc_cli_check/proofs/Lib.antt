@@ -1,2 +1,1 @@
 mod CheckedFile
-mod PlaceLemmas

@@ -2,7 +2,7 @@
 use Rattle.std.specs.Prelude.{◌≡◌, ℕ, List, [], ◌∷◌, ◌++◌, ◌⊎◌}
 use Rattle.std.specs.List.{flat_map}
 use Rattle.orc_values.specs.Cells.{Cell}
-use Rattle.orc_file.specs.FileRows.{FileIs}
+use Rattle.orc_file_reader.specs.FileRows.{FileIs}
 use Rattle.orc_tail.specs.declared.tail.Tail.{Tail}
 use Rattle.orc_tail.specs.declared.fault.FileFault.{FileFault}
 use Rattle.orc_tail.specs.declared.fault.FileFault.TheVariants.{SourceFailed, OutOfMemory}

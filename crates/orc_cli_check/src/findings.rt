@@ -3,7 +3,7 @@ ghost use Rattle.std.specs.Prelude.{◌≡◌, ◌≢◌, ◌⊎◌, List, lengt
 ghost use Rattle.std.specs.Io.KnownBytes.{Appends, Keeps};
 ghost use Rattle.orc_values.specs.Cells.{Cell};
 ghost use Rattle.orc_io.specs.Leaves.{HandsBackSource};
-ghost use Rattle.orc_file.specs.FileRows.{FileIs};
+ghost use Rattle.orc_file_reader.specs.FileRows.{FileIs};
 ghost use Rattle.orc_tail.specs.declared.fault.FileFault.TheVariants.{SourceFailed, OutOfMemory};
 ghost use Rattle.orc_tail.specs.declared.tail.Tail.{Tail};
 ghost use Rattle.orc_cli_output.specs.Output.{AppendsPart, IsWantOfMemory, write_failed};
@@ -12,7 +12,7 @@ ghost use Rattle.orc_cli_check.specs.Lines.{finding_lines, IsFoundOf, IsSourceOr
 
 use orc_check::{Finding, check};
 use orc_cli_output::{CliFault, write_out};
-use orc_file::Source;
+use orc_io::Source;
 use std::alloc::{AllocError, Global};
 use std::io::Write;
 

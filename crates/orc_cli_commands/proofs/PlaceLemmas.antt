@@ -1,7 +1,7 @@
 -- An output that got nothing, and what a command answers, over what is the same.
 use Rattle.std.proofs.Common.{◌≡◌, ℕ, List, Option, Some, None, Result, Ok, Err, ap, refl, subst}
 use Rattle.std.specs.Io.KnownBytes.{Keeps}
-use Rattle.orc_stripe_writer.specs.declared.options.Options.{Options}
+use Rattle.orc_row_batch.specs.declared.options.Options.{Options}
 use Rattle.orc_cli_output.specs.declared.fault.CliFault.{CliFault}
 use Rattle.orc_merger.specs.declared.fault.MergeFault.{MergeFault}
 use Rattle.orc_cli_commands.specs.declared.outcome.Outcome.{Outcome}

@@ -3,7 +3,7 @@ use Rattle.std.specs.Prelude.{◌≡◌, ◌⊎◌, ℕ, List, [], ◌∷◌, ma
 use Rattle.std.specs.List.{All, Any}
 use Rattle.std.specs.Borrow.{Bor}
 use Rattle.std.specs.Io.KnownBytes.{Keeps}
-use Rattle.orc_stripe_writer.specs.declared.options.Options.{Options}
+use Rattle.orc_row_batch.specs.declared.options.Options.{Options}
 use Rattle.orc_tail.specs.declared.fault.FileFault.TheVariants as file
 use Rattle.orc_cli_output.specs.Output.{write_failed}
 use Rattle.orc_cli_output.specs.declared.fault.CliFault.{CliFault}
@@ -20,11 +20,11 @@ use Rattle.orc_cli_commands.specs.Places.{Finds, Makes, CanFail, CanFailAt}
 use Rattle.orc_cli_commands.specs.Commands.{AnswersInts, AnswersRows, AnswersShow, AnswersCheck, AnswersWrite, AnswersMerge}
 
 -- it ends as the command does
-abbrev pub Ends : (Result Outcome CliFault → Type 0) → Result Outcome Ending → Type 0
-Ends Holds (Ok outcome) = Holds (Ok outcome)
-Ends Holds (Err (Refused (Fault fault))) = Holds (Err fault)
-Ends Holds (Err (Refused NotUnderstood)) = ⊥
-Ends Holds (Err (NotMerged fault)) = ⊥
+abbrev pub EndsAs : (Result Outcome CliFault → Type 0) → Result Outcome Ending → Type 0
+EndsAs Holds (Ok outcome) = Holds (Ok outcome)
+EndsAs Holds (Err (Refused (Fault fault))) = Holds (Err fault)
+EndsAs Holds (Err (Refused NotUnderstood)) = ⊥
+EndsAs Holds (Err (NotMerged fault)) = ⊥
 
 -- it ends as the merge does
 abbrev pub EndsMerge : (Result Outcome MergeFault → Type 0) → Result Outcome Ending → Type 0
@@ -56,7 +56,7 @@ module _ (told : List ℕ → Option (List ℕ)) (lacks : List ℕ → Type 0) w
   -- a file is found, and the command is done, or it isn't, and nothing is printed
   abbrev pub AnswersFile : Option (List ℕ) → Option (List ℕ) → Result Outcome Ending → List ℕ
       → (Result Outcome CliFault → Type 0) → Type 0
-  AnswersFile old new result path Holds = Finds (lacks path) (told path) (Ends Holds result)
+  AnswersFile old new result path Holds = Finds (lacks path) (told path) (EndsAs Holds result)
       (IsRefusedAs result (File file.SourceFailed) × Keeps old new)
 
   -- And after the request: what it tells of files that were made, and that it is as it was. The counts are those of the
@@ -73,7 +73,7 @@ module _ (told : List ℕ → Option (List ℕ)) (lacks : List ℕ → Type 0) w
     abbrev pub AnswersWriting : List ℕ → Options → List ℕ → List ℕ → Type 0
     AnswersWriting schema options from to = Finds (lacks from) (told from)
         (AnswersMaking to (IsRefusedAs result write_failed)
-        (λ first. Ends (AnswersWrite schema options (told from) (CanFail input_failures) (CanFail output_failures)
+        (λ first. EndsAs (AnswersWrite schema options (told from) (CanFail input_failures) (CanFail output_failures)
         first (made to)) result))
         (unmade × (IsRefusedAs result (File file.SourceFailed) ⊎ IsRefusedAs result (File file.OutOfMemory)))
 
@@ -90,7 +90,7 @@ abbrev pub Answers : {I L O : Type 0} → (List ℕ → Option (List ℕ)) → (
     → (List ℕ → Option (List ℕ)) → Type 0 → (I → ℕ) → (L → ℕ) → (O → ℕ)
     → Option (List ℕ) → Option (List ℕ) → Result Outcome Ending → Request → Type 0
 Answers told lacks made unmade input lines output old new result (Ints rle sign hex) =
-    unmade × Ends (AnswersInts rle sign hex.now old new) result
+    unmade × EndsAs (AnswersInts rle sign hex.now old new) result
 Answers told lacks made unmade input lines output old new result (Rows path from) =
     unmade × AnswersFile told lacks old new result path.now (AnswersRows (told path.now) from (CanFail input) old new)
 Answers told lacks made unmade input lines output old new result (Show path) =

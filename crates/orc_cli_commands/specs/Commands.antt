@@ -8,24 +8,24 @@ use Rattle.orc_rle.specs.declared.sign.Rle.{Rle}
 use Rattle.orc_rle.specs.declared.sign.Sign.{Sign}
 use Rattle.orc_values.specs.Cells.{Cell}
 use Rattle.orc_values.specs.Shapes.{Shape}
-use Rattle.orc_types.specs.SchemaText.{HasText}
-use Rattle.orc_types.specs.declared.json_fault.JsonFault.TheVariants as json
-use Rattle.orc_stripe_writer.specs.declared.options.Options.{Options}
-use Rattle.orc_file.specs.FileRows.{FileIs}
+use Rattle.orc_types.specs.Schemas.{HasText}
+use Rattle.orc_json_rows.specs.declared.json_fault.JsonFault.TheVariants as json
+use Rattle.orc_row_batch.specs.declared.options.Options.{Options}
+use Rattle.orc_file_reader.specs.FileRows.{FileIs}
 use Rattle.orc_tail.specs.Tails.{IsTail}
-use Rattle.orc_file.specs.Writing.{IsWhole}
+use Rattle.orc_file_writer.specs.Writing.{WroteWholeFile}
 use Rattle.orc_tail.specs.declared.fault.FileFault.{FileFault}
 use Rattle.orc_tail.specs.declared.fault.FileFault.TheVariants as file
 use Rattle.orc_tail.specs.declared.tail.Tail.{Tail}
-use Rattle.orc_cli_output.specs.Output.{AppendsPart, IsNotOpened, IsOutside, IsOutsideFile, IsWantOfMemory, write_failed}
+use Rattle.orc_cli_output.specs.Output.{AppendsPart, IsNotOpened, IsOutputOrMemory, IsOutsideFile, IsWantOfMemory, write_failed}
 use Rattle.orc_cli_output.specs.declared.fault.CliFault.{CliFault}
 use Rattle.orc_cli_output.specs.declared.fault.CliFault.TheVariants.{File, Run, Json}
-use Rattle.orc_cli_ints.specs.Ints.{number_line, SpellsInts, StopsInts, IsNoHex, RefusesInts, IsWantOfInts}
+use Rattle.orc_cli_ints.specs.Ints.{number_line, DigitsSpellInts, StopsInts, IsNoHex, RefusesInts, IsWantOfInts}
 use Rattle.orc_cli_rows.specs.Rows.{HaveJson, IsWantOfRows}
-use Rattle.orc_cli_rows.specs.Printed.{IsAsked, IsNotAsked, ArePrinted, Refuses}
+use Rattle.orc_cli_rows.specs.Printed.{IsAsked, IsNotAsked, ArePrinted, RefusesPlace}
 use Rattle.orc_cli_show.specs.Show.{show_lines, IsWantOfShow}
 use Rattle.orc_cli_check.specs.Lines.{finding_lines, IsFoundOf, IsSourceOrMemory, IsNotChecked, IsWantOfCheck}
-use Rattle.orc_cli_write.specs.Lines.{AreRowsOf}
+use Rattle.orc_cli_write.specs.Lines.{AreRowsOfLines}
 use Rattle.orc_cli_write.specs.Writes.{IsOfWriter, IsWantOfWrite}
 use Rattle.orc_cli_write.specs.Reads.{RefusesLines}
 use Rattle.orc_merger.specs.Faults.{IsDeviceFault, IsOfBytes, IsOfMerge}
@@ -47,13 +47,13 @@ IsOfNumber n outcome = (n ≡ 0 → outcome ≡ Done) × (0 < n → outcome ≡ 
 pub record AnswersInts (rle : Rle) (sign : Sign) (text : List ℕ) (old new : Option (List ℕ))
     (result : Result Outcome CliFault) : Type 0 where
   pub done : IsDone result
-  pub written : OnOk result ((values : List ℤ) × SpellsInts rle sign text values × Appends old new (number_line values))
-  pub only : (values : List ℤ) → SpellsInts rle sign text values → IfErr result IsOutside
+  pub written : OnOk result ((values : List ℤ) × DigitsSpellInts rle sign text values × Appends old new (number_line values))
+  pub only : (values : List ℤ) → DigitsSpellInts rle sign text values → IfErr result IsOutputOrMemory
   pub refused : IfErr result (RefusesInts rle sign text)
   pub no_hex : IsNoHex text → IsErrAnd result (λ e. (e ≡ Json json.BadHex) ⊎ IsWantOfMemory e)
   pub stops : (fault : RunFault) → StopsInts rle sign text fault
       → IsErrAnd result (λ e. (e ≡ Run fault) ⊎ IsWantOfMemory e)
-  pub part : (values : List ℤ) → SpellsInts rle sign text values → result ≡ Err write_failed
+  pub part : (values : List ℤ) → DigitsSpellInts rle sign text values → result ≡ Err write_failed
       → AppendsPart old new (number_line values)
   pub nothing : IfErr result (λ e. e ≢ write_failed → Keeps old new)
   pub layer : IfErr result (λ e. IsWantOfMemory e → IsWantOfInts e)
@@ -66,7 +66,7 @@ pub record AnswersRows (told : Option (List ℕ)) (from : Option (Bor (List ℕ)
       × ArePrinted bytes start old new))
   pub only : from ≡ None → IfSome told (λ bytes. (tail : Tail) (rows : List Cell) → FileIs bytes tail rows
       → HaveJson tail.schema rows → IfErr result IsOutsideFile)
-  pub refused : IfErr result (λ e. IfSome told (λ bytes. Refuses bytes from old new e))
+  pub refused : IfErr result (λ e. IfSome told (λ bytes. RefusesPlace bytes from old new e))
   pub unread : ((start : _) → IsAsked from start → ⊥)
       → MatchResult result (λ _. ⊥) (λ e. IsNotAsked from e × Keeps old new)
   pub source : IfErr result (λ e. e ≡ File file.SourceFailed → failed)
@@ -106,8 +106,8 @@ pub record AnswersWrite (schema : List ℕ) (options : Options) (lines : Option 
     (result : Result Outcome CliFault) : Type 0 where
   pub done : IsDone result
   pub written : OnOk result ((s : Shape) × (rows : List Cell) × (tail : Tail) × HasText s schema
-      × IfSome lines (λ bytes. AreRowsOf s bytes rows) × IsWhole options s tail first made rows)
-  pub only : IfSome lines (λ bytes. (s : Shape) (rows : List Cell) → HasText s schema → AreRowsOf s bytes rows
+      × IfSome lines (λ bytes. AreRowsOfLines s bytes rows) × WroteWholeFile options s tail first made rows)
+  pub only : IfSome lines (λ bytes. (s : Shape) (rows : List Cell) → HasText s schema → AreRowsOfLines s bytes rows
       → IfErr result (λ e. IsOfWriter e ⊎ (e ≡ File file.SourceFailed)))
   pub refused : IfErr result (RefusesLines options schema lines first made)
   pub source : IfErr result (λ e. e ≡ File file.SourceFailed → lines_failed)

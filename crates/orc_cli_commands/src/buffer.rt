@@ -6,7 +6,7 @@ ghost use Rattle.orc_tail.specs.declared.fault.FileFault.TheVariants.{WriteFaile
 ghost use Rattle.orc_cli_output.specs.declared.fault.CliFault.TheVariants.{File as FileFaulted};
 
 use orc_cli_output::CliFault;
-use orc_file::FileFault;
+use orc_tail::FileFault;
 use std::alloc::Global;
 use std::io::{BufWriter, Write};
 

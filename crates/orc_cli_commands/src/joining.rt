@@ -11,8 +11,9 @@ use crate::ending::Ending;
 use crate::outcome::Outcome;
 use crate::place::Place;
 use orc_cli_output::CliFault;
-use orc_file::{FileFault, Sink, Source};
+use orc_io::{Sink, Source};
 use orc_merger::{MergeFault, merge};
+use orc_tail::FileFault;
 use std::alloc::Global;
 
 /// All inputs, in their order.

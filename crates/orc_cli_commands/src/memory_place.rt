@@ -6,7 +6,8 @@ ghost use Rattle.orc_cli_commands.specs.Places.{held_at};
 use crate::place::Place;
 use orc_cli_output::CliFault;
 use orc_cli_write::StdLines;
-use orc_file::{FileFault, SliceSource, VecSink};
+use orc_io::{SliceSource, VecSink};
+use orc_tail::FileFault;
 use std::alloc::Global;
 
 /// Files in memory: those that are there first, each behind its path, and room for one that is made. It tells all of

@@ -8,7 +8,8 @@ ghost use Rattle.orc_cli_output.specs.Output.{write_failed};
 use crate::buffer::flush_buffer;
 use crate::durable::Durable;
 use orc_cli_output::CliFault;
-use orc_file::{Failures, FileFault, Sink, SinkFault};
+use orc_io::{Failures, Sink, SinkFault};
+use orc_tail::FileFault;
 use std::io::{BufWriter, Write};
 
 /// A new file behind a buffer. It tells nothing of its bytes as a sink, and fails only where the file fails or takes

@@ -6,7 +6,7 @@ ghost use Rattle.orc_cli_output.specs.declared.fault.CliFault.TheVariants.{File}
 
 use orc_cli_output::CliFault;
 use orc_cli_write::LineReader;
-use orc_file::{Sink, Source};
+use orc_io::{Sink, Source};
 use std::alloc::Global;
 
 /// Where files lie that are named by paths: they are opened, read as lines, or made anew. What a place tells of a path,

@@ -2,7 +2,7 @@
 ghost use Rattle.std.specs.Prelude.{◌≡◌, List, ℕ};
 ghost use Rattle.orc_cli_commands.specs.Places.{CanFail};
 ghost use Rattle.orc_cli_commands.specs.Commands.{AnswersInts, AnswersRows, AnswersShow, AnswersCheck};
-ghost use Rattle.orc_cli_commands.specs.Answers.{Ends, AnswersFile};
+ghost use Rattle.orc_cli_commands.specs.Answers.{EndsAs, AnswersFile};
 
 use crate::ending::Ending;
 use crate::outcome::Outcome;
@@ -12,7 +12,7 @@ use orc_cli_ints::ints_to;
 use orc_cli_output::CliFault;
 use orc_cli_rows::rows_to;
 use orc_cli_show::show_to;
-use orc_file::Source;
+use orc_io::Source;
 use orc_rle::{Rle, Sign};
 use std::alloc::Global;
 use std::io::Write;

@@ -4,7 +4,7 @@ ghost use Rattle.std.specs.Io.{ReadsAtMost};
 ghost use Rattle.std.specs.Io.KnownBytes.{ReadConsumes};
 
 use crate::progress::Progress;
-use orc_file::{Source, SourceFault};
+use orc_io::{Source, SourceFault};
 use std::io::{self, Read};
 
 /// A device that tells a meter how many bytes each of its reads gave. Bytes and answers are those of the device, as they

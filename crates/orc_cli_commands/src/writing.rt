@@ -9,8 +9,8 @@ use crate::outcome::Outcome;
 use crate::place::Place;
 use orc_cli_output::CliFault;
 use orc_cli_write::{LineReader, write_lines};
-use orc_file::Sink;
-use orc_stripe::Options;
+use orc_io::Sink;
+use orc_row_batch::Options;
 use std::alloc::Global;
 
 /// Writes a file of the rows that lines spell, and hands the output back.

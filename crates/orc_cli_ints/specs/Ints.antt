@@ -15,7 +15,7 @@ use Rattle.orc_rle.specs.Stream.{IsStream, StopsAt}
 use Rattle.orc_cli_output.specs.Output.{write_failed}
 use Rattle.orc_cli_output.specs.declared.fault.CliFault.{CliFault}
 use Rattle.orc_cli_output.specs.declared.fault.CliFault.TheVariants.{Run, Types, Json, File}
-use Rattle.orc_types.specs.declared.json_fault.JsonFault.TheVariants as json
+use Rattle.orc_json_rows.specs.declared.json_fault.JsonFault.TheVariants as json
 use Rattle.orc_tail.specs.declared.fault.FileFault.TheVariants as file
 
 -- the numbers in decimal digits, one space between
@@ -37,8 +37,8 @@ StopsIntegers One sign bytes fault = StopsAt (IsRunOne sign) (NoRunOne sign) byt
 StopsIntegers Two sign bytes fault = StopsAt (IsRunTwo sign) (NoRunTwo sign) bytes fault
 
 -- the digits spell bytes that are a stream of the values
-abbrev pub SpellsInts : Rle → Sign → List ℕ → List ℤ → Type 0
-SpellsInts rle sign text values = (bytes : List ℕ) × (decode_of text ≡ Ok bytes) × IsIntegerStream rle sign bytes values
+abbrev pub DigitsSpellInts : Rle → Sign → List ℕ → List ℤ → Type 0
+DigitsSpellInts rle sign text values = (bytes : List ℕ) × (decode_of text ≡ Ok bytes) × IsIntegerStream rle sign bytes values
 
 -- the digits spell bytes whose first run that is none is refused so
 abbrev pub StopsInts : Rle → Sign → List ℕ → RunFault → Type 0
@@ -64,4 +64,4 @@ IsWantOfInts fault = (fault ≡ Run RunOutOfMemory) ⊎ (fault ≡ File file.Out
 abbrev pub RefusesInts : Rle → Sign → List ℕ → CliFault → Type 0
 RefusesInts rle sign text fault =
     RefusesDigits rle sign text fault
-    ⊎ ((fault ≡ write_failed) × ((values : List ℤ) × SpellsInts rle sign text values))
+    ⊎ ((fault ≡ write_failed) × ((values : List ℤ) × DigitsSpellInts rle sign text values))

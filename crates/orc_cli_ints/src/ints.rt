@@ -1,19 +1,19 @@
 //! `orcm ints`: the numbers of an integer stream.
 ghost use Rattle.std.specs.Prelude.{◌≡◌, ◌≢◌, ℤ, List, [], ◌∷◌, ◌++◌, ◌⊎◌, IfOk, OnOk, IfErr, IsErrAnd, MatchResult, string_bytes};
 ghost use Rattle.std.specs.Io.KnownBytes.{Appends, Keeps};
-ghost use Rattle.orc_cli_ints.specs.Ints.{numbers, number_line, IsIntegerStream, StopsIntegers, SpellsInts, StopsInts, IsNoHex, IsWantOfInts, RefusesDigits, RefusesInts};
-ghost use Rattle.orc_cli_output.specs.Output.{AppendsPart, IsOutside, IsWantOfMemory, write_failed};
+ghost use Rattle.orc_cli_ints.specs.Ints.{numbers, number_line, IsIntegerStream, StopsIntegers, DigitsSpellInts, StopsInts, IsNoHex, IsWantOfInts, RefusesDigits, RefusesInts};
+ghost use Rattle.orc_cli_output.specs.Output.{AppendsPart, IsOutputOrMemory, IsWantOfMemory, write_failed};
 ghost use Rattle.orc_cli_output.specs.declared.fault.CliFault.TheVariants.{Run, Json};
-ghost use Rattle.orc_types.specs.declared.json_fault.JsonFault.TheVariants as json;
+ghost use Rattle.orc_json_rows.specs.declared.json_fault.JsonFault.TheVariants as json;
 ghost use Rattle.orc_rle.specs.declared.fault.RunFault.{RunFault};
 ghost use Rattle.orc_rle.specs.declared.fault.RunFault.TheVariants.{OutOfMemory as RunOutOfMemory};
 ghost use Rattle.orc_rle.specs.Stream.{Refuses};
 
 use hex::FromHexError;
 use orc_cli_output::{CliFault, write_out};
+use orc_json_rows::JsonFault;
 use orc_rle::{Rle, RunCodec, RunFault, Sign, V1, V2};
 use orc_tail::FileFault;
-use orc_types::JsonFault;
 use std::alloc::{AllocError, Global};
 use std::io::Write;
 
@@ -48,9 +48,9 @@ fn decode_all(alloc: Global, rle: Rle, sign: Sign, bytes: &[u8]) -> Result<Vec<i
 
 /// The values of the runs whose bytes the hexadecimal digits spell, in either case.
 fn values_of(alloc: Global, rle: Rle, sign: Sign, text: &str) -> Result<Vec<i64>, CliFault>
-    ensures found { IfOk result (λ found. SpellsInts rle sign text.now found.items) }
-    ensures only { (values : List ℤ) → SpellsInts rle sign text.now values → IfErr result IsWantOfMemory }
-    ensures same { (values : List ℤ) → SpellsInts rle sign text.now values
+    ensures found { IfOk result (λ found. DigitsSpellInts rle sign text.now found.items) }
+    ensures only { (values : List ℤ) → DigitsSpellInts rle sign text.now values → IfErr result IsWantOfMemory }
+    ensures same { (values : List ℤ) → DigitsSpellInts rle sign text.now values
         → IfOk result (λ found. found.items ≡ values) }
     ensures refused { IfErr result (RefusesDigits rle sign text.now) }
     ensures no_hex { IsNoHex text.now → IsErrAnd result (λ e. (e ≡ Json json.BadHex) ⊎ IsWantOfMemory e) }
@@ -83,10 +83,10 @@ pub fn ints_to<W: Write>(
 ) -> Result<(), CliFault>
     // If the call succeeds, then the digits in `text` spell a stream of numbers, and the output has got exactly
     // the line of these numbers if the output's bytes are known.
-    ensures written { OnOk result ((values : List ℤ) × SpellsInts rle sign text.now values
+    ensures written { OnOk result ((values : List ℤ) × DigitsSpellInts rle sign text.now values
         × Appends (W.contents out.old) (W.contents out.new) (number_line values)) }
     // If the digits in `text` spell a stream of numbers, then an error is `WriteFailed` or `OutOfMemory`.
-    ensures only { (values : List ℤ) → SpellsInts rle sign text.now values → IfErr result IsOutside }
+    ensures only { (values : List ℤ) → DigitsSpellInts rle sign text.now values → IfErr result IsOutputOrMemory }
 
     // An error is `BadHex`, only if `text` is not hexadecimal; `Run` with the fault of the first invalid run of
     // the bytes that `text` spells; `WriteFailed`, only if the digits in `text` spell a stream of numbers; or
@@ -100,7 +100,7 @@ pub fn ints_to<W: Write>(
         → IsErrAnd result (λ e. (e ≡ Run fault) ⊎ IsWantOfMemory e) }
     // If the error is `WriteFailed`, the output's bytes are known, and the digits in `text` spell a stream of
     // numbers, then the output has got a proper prefix of the line of these numbers.
-    ensures part { (values : List ℤ) → SpellsInts rle sign text.now values → result ≡ Err write_failed
+    ensures part { (values : List ℤ) → DigitsSpellInts rle sign text.now values → result ≡ Err write_failed
         → AppendsPart (W.contents out.old) (W.contents out.new) (number_line values) }
     // If the call fails with any error but `WriteFailed`, then the output's bytes are unchanged if they are
     // known.

@@ -6,7 +6,7 @@ use Rattle.orc_wire.specs.declared.stripe_info.StripeInfo.{StripeInfo}
 use Rattle.orc_values.specs.Shapes.{Shape}
 use Rattle.orc_tail.specs.Layout.{postscript_bytes, postscript_place, footer_bytes, metadata_bytes, metadata_place}
 use Rattle.orc_tail.specs.Stripes.{stripe_tests, stripe_end}
-use Rattle.orc_tail.specs.Tails.{postscript_tests, end_tests, footer_tests, metadata_tests, limit_tests, OpenFault}
+use Rattle.orc_tail.specs.Tails.{postscript_tests, end_tests, footer_tests, metadata_tests, limit_tests, TailOpenFault}
 use Rattle.orc_tail.specs.Tests.{Test}
 use Rattle.orc_tail.specs.declared.fault.FileFault.{FileFault}
 use Rattle.orc_tail.specs.declared.fault.FileFault.TheVariants.{NotOrc, BadPostscript, Compressed, Encrypted, BadLengths, BadFooter, BadMetadata, BadStripe, RowCount, Limit, WriteFailed}
@@ -48,7 +48,7 @@ at_limits before f s m h =
     past Limit h (λ e. cc) (λ h. past Limit h (λ e. cc) (λ h. past Limit h (λ e. cc) (λ h.
     behind h (at_stripes 0 3 before f.stripes) (λ done h. past RowCount h (λ e. cc) (λ h. past Limit h (λ e. cc) (λ h. past Limit h (λ e. cc) (λ h. h)))))))
 
-pub never_output : (bytes : List ℕ) → OpenFault bytes WriteFailed → ⊥
+pub never_output : (bytes : List ℕ) → TailOpenFault bytes WriteFailed → ⊥
 never_output bytes h =
     behind h (at_ends bytes) (λ postscript h.
     behind h (at_footer (footer_bytes bytes postscript)) (λ f h.

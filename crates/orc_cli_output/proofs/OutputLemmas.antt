@@ -5,7 +5,7 @@ use Rattle.orc_tail.specs.declared.fault.FileFault.{FileFault}
 use Rattle.orc_tail.specs.declared.fault.FileFault.TheVariants as file
 use Rattle.orc_cli_output.specs.declared.fault.CliFault.{CliFault}
 use Rattle.orc_cli_output.specs.declared.fault.CliFault.TheVariants.{File}
-use Rattle.orc_cli_output.specs.Output.{AppendsPart, IsWantOfMemory, IsOutside, write_failed}
+use Rattle.orc_cli_output.specs.Output.{AppendsPart, IsWantOfMemory, IsOutputOrMemory, write_failed}
 
 pub appends_more : (old mid new : Option (List ℕ)) (x y : List ℕ) → Appends old mid x → Appends mid new y → Appends old new (x ++ y)
 appends_more None mid new x y p q = tt
@@ -31,7 +31,7 @@ file_want why (inr (inr (inl e))) = absurd (cc)
 file_want why (inr (inr (inr e))) = absurd (cc)
 
 -- the exit of a `?` on a want of memory
-pub outside_from : (r : Result (Unit {0}) CliFault) (fault : CliFault) → IsWantOfMemory fault → IsErrAnd r (λ y. y ≡ fault) → IfErr r IsOutside
+pub outside_from : (r : Result (Unit {0}) CliFault) (fault : CliFault) → IsWantOfMemory fault → IsErrAnd r (λ y. y ≡ fault) → IfErr r IsOutputOrMemory
 outside_from (Ok _) fault want is = tt
 outside_from (Err e) fault want is = inr (subst IsWantOfMemory (sym is) want)
 
@@ -50,3 +50,6 @@ no_want fault (inr (inr (inr h))) failed = cc
 pub part_of : (fault : CliFault) (P Q : Type 0) → ((fault ≡ write_failed) × P) ⊎ (IsWantOfMemory fault × Q) → fault ≡ write_failed → P
 part_of fault P Q (inl h) failed = h.1
 part_of fault P Q (inr h) failed = absurd (no_want fault h.0 failed)
+
+pub same_file : (why other : FileFault) → File why ≡ File other → why ≡ other
+same_file why other e = cc

@@ -2,9 +2,9 @@
 use Rattle.std.specs.Prelude.{◌≡◌, ℕ, ◌<◌, List, length, take, ◌⊎◌, Option}
 use Rattle.std.specs.Io.KnownBytes.{Appends}
 use Rattle.orc_rle.specs.declared.fault.RunFault.TheVariants as run
-use Rattle.orc_types.specs.declared.fault.TypeFault.TheVariants as types
-use Rattle.orc_types.specs.declared.json_fault.JsonFault.TheVariants as json
-use Rattle.orc_tail.specs.Tails.{OpenFault}
+use Rattle.orc_trees.specs.declared.fault.TypeFault.TheVariants as types
+use Rattle.orc_json_rows.specs.declared.json_fault.JsonFault.TheVariants as json
+use Rattle.orc_tail.specs.Tails.{TailOpenFault}
 use Rattle.orc_tail.specs.declared.fault.FileFault.{FileFault}
 use Rattle.orc_tail.specs.declared.fault.FileFault.TheVariants as file
 use Rattle.orc_cli_output.specs.declared.fault.CliFault.{CliFault}
@@ -27,8 +27,8 @@ IsWantOfMemory fault =
     ⊎ (fault ≡ Types types.OutOfMemory)))
 
 -- the output failed, or a growth was refused
-abbrev pub IsOutside : CliFault → Type 0
-IsOutside fault = (fault ≡ write_failed) ⊎ IsWantOfMemory fault
+abbrev pub IsOutputOrMemory : CliFault → Type 0
+IsOutputOrMemory fault = (fault ≡ write_failed) ⊎ IsWantOfMemory fault
 
 -- the source failed, or a growth was refused
 abbrev pub IsOfSource : CliFault → Type 0
@@ -36,7 +36,7 @@ IsOfSource fault = (fault ≡ File file.SourceFailed) ⊎ IsWantOfMemory fault
 
 -- why a file isn't opened: by its bytes, or for its source or memory
 abbrev pub IsNotOpened : List ℕ → CliFault → Type 0
-IsNotOpened bytes fault = ((why : FileFault) × (fault ≡ File why) × OpenFault bytes why) ⊎ IsOfSource fault
+IsNotOpened bytes fault = ((why : FileFault) × (fault ≡ File why) × TailOpenFault bytes why) ⊎ IsOfSource fault
 
 -- the refusals that come from outside the file's bytes
 abbrev pub IsOutsideFile : CliFault → Type 0

@@ -1,8 +1,9 @@
 //! What a command refuses with.
 
+use orc_json_rows::JsonFault;
 use orc_rle::RunFault;
 use orc_tail::FileFault;
-use orc_types::{JsonFault, TypeFault};
+use orc_trees::TypeFault;
 use std::alloc::AllocError;
 use thiserror::Error;
 

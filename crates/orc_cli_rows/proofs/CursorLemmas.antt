@@ -4,13 +4,13 @@ use Rattle.std.proofs.lemmas.List.Concat.{flat_map-append}
 use Rattle.orc_values.specs.Cells.{Cell}
 use Rattle.orc_values.specs.Shapes.{Shape}
 use Rattle.orc_values.specs.Fits.{RowsFit}
-use Rattle.orc_json.specs.Texts.{Prints}
+use Rattle.orc_json_printer.specs.Texts.{Prints}
 use Rattle.orc_column_text.specs.Taken.{GaveText, GivesText}
-use Rattle.orc_stripe.specs.Cursors.{IsGoing, HasRefused, StandsFor}
-use Rattle.orc_stripe.specs.declared.cursor.RowCursor.{RowCursor}
+use Rattle.orc_stripe_reader.specs.Cursors.{IsGoing, HasRefused, StandsFor}
+use Rattle.orc_stripe_reader.specs.declared.cursor.RowCursor.{RowCursor}
 use Rattle.orc_cli_rows.specs.Rows.{row_line, row_lines}
-use Rattle.orc_json.specs.Outputs.{Puts}
-use Rattle.orc_json.proofs.Outputs.{puts_then, puts_is, puts_none}
+use Rattle.orc_json_printer.specs.Outputs.{Puts}
+use Rattle.orc_json_printer.proofs.Outputs.{puts_then, puts_is, puts_none}
 use Rattle.orc_cli_rows.specs.Pieces.{text_line, text_lines, PutsAll, PutsFront}
 
 -- lines of rows that stand behind others

@@ -3,20 +3,19 @@ use Rattle.std.proofs.Common.{ℕ, ◌+◌, ◌<◌, inl, inr, List, ◌++◌, l
 use Rattle.std.specs.Option.{IfSome}
 use Rattle.std.specs.Prelude.{IfErr, OnOk}
 use Rattle.std.specs.Io.KnownBytes.{Appends}
-use Rattle.orc_tail.specs.Stripes.{stripe_at}
-use Rattle.orc_file.specs.FileRows.{stripe_bytes}
+use Rattle.orc_tail.specs.Stripes.{stripe_at, stripe_bytes}
 use Rattle.orc_tail.specs.declared.tail.Tail.{Tail}
 use Rattle.orc_cli_output.specs.declared.fault.CliFault.{CliFault}
 use Rattle.orc_cli_output.proofs.OutputLemmas.{appends_more}
-use Rattle.orc_cli_rows.specs.Rows.{AreOfStripes, EndsIn}
-use Rattle.orc_cli_rows.specs.FromGroup.{AreLinesFrom, AreFrom, EndsAtGroup, EndsFrom}
+use Rattle.orc_cli_rows.specs.Rows.{AreLinesOfStripes, EndsIn}
+use Rattle.orc_cli_rows.specs.FromGroup.{AreLinesFrom, AreLinesFromGroup, EndsAtGroup, EndsFrom}
 
 -- ---- from the group to the end
 
 pub from_both : {A : Type 0} (told : Option (List ℕ)) (tail : Tail) (n group : ℕ) (old mid new : Option (List ℕ)) (r : Result A CliFault) → n < length tail.stripes
     → IfSome told (λ all. (own : List ℕ) × AreLinesFrom tail n (stripe_bytes (stripe_at tail.stripes n) all) group own × Appends old mid own)
-    → OnOk r (IfSome told (λ all. (lines : List ℕ) × AreOfStripes tail.schema all (drop (n + 1) tail.stripes) lines × Appends mid new lines))
-    → OnOk r (IfSome told (λ all. (lines : List ℕ) × AreFrom all tail n group lines × Appends old new lines))
+    → OnOk r (IfSome told (λ all. (lines : List ℕ) × AreLinesOfStripes tail.schema all (drop (n + 1) tail.stripes) lines × Appends mid new lines))
+    → OnOk r (IfSome told (λ all. (lines : List ℕ) × AreLinesFromGroup all tail n group lines × Appends old new lines))
 from_both told tail n group old mid new (Err e) lt first later = tt
 from_both None tail n group old mid new (Ok a) lt first later = tt
 from_both (Some all) tail n group old mid new (Ok a) lt first later = (

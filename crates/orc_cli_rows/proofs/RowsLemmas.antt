@@ -3,7 +3,7 @@ use Rattle.std.proofs.Common.{◌≡◌, ℕ, zero, suc, ◌+◌, ◌-◌, ◌<�
 use Rattle.std.specs.Borrow.{Bor}
 use Rattle.std.specs.Option.{IfSome}
 use Rattle.std.specs.Prelude.{IfErr, Result, Ok, Err}
-use Rattle.std.specs.Io.KnownBytes.{Appends, Keeps}
+use Rattle.std.specs.Io.KnownBytes.{Appends}
 use Rattle.std.proofs.lemmas.List.{take_more}
 use Rattle.std.proofs.Math.Seq.{take-length}
 use Rattle.std.proofs.lemmas.List.Concat.{flat_map-append}
@@ -11,19 +11,20 @@ use Rattle.orc_wire.specs.declared.stripe_info.StripeInfo.{StripeInfo}
 use Rattle.orc_values.specs.Cells.{Cell}
 use Rattle.orc_values.specs.Shapes.{Shape}
 use Rattle.orc_column_reader.specs.Stripe.{IsStripe}
-use Rattle.orc_stripe.proofs.OneStripe.{one_stripe}
-use Rattle.orc_tail.specs.Stripes.{stripe_at}
-use Rattle.orc_tail.specs.Tails.{IsTail, OpenFault, ReadFault, tail_tests}
+use Rattle.orc_stripe_reader.proofs.OneStripe.{one_stripe}
+use Rattle.orc_tail.specs.Stripes.{stripe_at, stripe_bytes}
+use Rattle.orc_tail.specs.Tails.{IsTail, TailOpenFault, ReadFault, tail_tests}
 use Rattle.orc_tail.specs.declared.fault.FileFault.{FileFault}
-use Rattle.orc_file.specs.FileRows.{stripe_bytes, joined, HasRows, FileIs, AreOfStripes as RowsOfStripes}
+use Rattle.orc_file_reader.specs.FileRows.{rows_together, HasRows, FileIs, AreOfStripes as RowsOfStripes}
 use Rattle.orc_tail.specs.declared.tail.Tail.{Tail}
 use Rattle.orc_cli_output.specs.Output.{write_failed, IsOutsideFile, IsWantOfMemory}
 use Rattle.orc_cli_output.proofs.OutputLemmas.{appends_more}
-use Rattle.orc_cli_rows.specs.Rows.{row_line, row_lines, HaveJson, AreOfStripe, AreOfStripes, StripeStops, EndsAt, EndsIn, IsOfRows, IsWantOfRows}
-use Rattle.orc_cli_rows.specs.Printed.{IsAsked, IsNotAsked, AreLines, ArePrinted, Ends, Stops, RefusesFile}
+use Rattle.orc_cli_rows.specs.Rows.{row_line, row_lines, HaveJson, AreOfStripe, AreLinesOfStripes, StripeStops, EndsAt, EndsIn, RefusesRows, IsWantOfRows}
+use Rattle.orc_cli_rows.specs.Printed.{IsAsked, IsNotAsked, AreLinesOfFile, ArePrinted, PrintingEnds, PrintingStops, RefusesFile}
 use Rattle.orc_cli_rows.specs.declared.start.Start.{Start}
 use Rattle.orc_cli_output.specs.declared.fault.CliFault.{CliFault}
 use Rattle.orc_cli_output.specs.declared.fault.CliFault.TheVariants.{File}
+use Rattle.orc_io.proofs.Told.{keeps_itself}
 
 -- ---- stripes, one more at a time
 
@@ -39,7 +40,7 @@ more_rows : (s : Shape) (bytes : List ℕ) (infos : List StripeInfo) (info : Str
 more_rows s bytes infos info rows own p is = record {
   parts = p.parts ++ own ∷ [];
   stripes = more_parts s bytes infos p.parts info own p.stripes is;
-  rows_are = ap (λ (t : List Cell). t ++ own) p.rows_are ∙ (ap (λ (t : List Cell). joined p.parts ++ t) (sym (append-nil own)) ∙ sym (flat_map-append (λ (r : List Cell). r) p.parts (own ∷ [])));
+  rows_are = ap (λ (t : List Cell). t ++ own) p.rows_are ∙ (ap (λ (t : List Cell). rows_together p.parts ++ t) (sym (append-nil own)) ∙ sym (flat_map-append (λ (r : List Cell). r) p.parts (own ∷ [])));
 }
 
 json_both : (s : Shape) (a b : List Cell) → HaveJson s a → HaveJson s b → HaveJson s (a ++ b)
@@ -47,8 +48,8 @@ json_both s a b (inr distinct) q = inr distinct
 json_both s a b (inl none) (inr distinct) = inr distinct
 json_both s a b (inl none) (inl nothing) = inl (rw (none, nothing) refl)
 
-more_lines : (s : Shape) (bytes : List ℕ) (infos : List StripeInfo) (n : ℕ) (lines own : List ℕ) → n < length infos → AreOfStripes s bytes (take n infos) lines
-    → AreOfStripe s (stripe_at infos n) (stripe_bytes (stripe_at infos n) bytes) own → AreOfStripes s bytes (take (n + 1) infos) (lines ++ own)
+more_lines : (s : Shape) (bytes : List ℕ) (infos : List StripeInfo) (n : ℕ) (lines own : List ℕ) → n < length infos → AreLinesOfStripes s bytes (take n infos) lines
+    → AreOfStripe s (stripe_at infos n) (stripe_bytes (stripe_at infos n) bytes) own → AreLinesOfStripes s bytes (take (n + 1) infos) (lines ++ own)
 more_lines s bytes infos n lines own lt p is =
     let next = take_more infos n (record { offset = 0; index_length = 0; data_length = 0; footer_length = 0; number_of_rows = 0 }) lt in
     record {
@@ -68,16 +69,16 @@ appends_none (Some bytes) = sym (append-nil bytes)
 
 -- the lines of the stripes from the first of them on are out, up to number n
 abbrev pub Printed : Option (List ℕ) → Shape → List StripeInfo → ℕ → ℕ → Option (List ℕ) → Option (List ℕ) → Type 0
-Printed told s infos first n old new = IfSome told (λ all. (lines : List ℕ) × AreOfStripes s all (take (n - first) (drop first infos)) lines × Appends old new lines)
+Printed told s infos first n old new = IfSome told (λ all. (lines : List ℕ) × AreLinesOfStripes s all (take (n - first) (drop first infos)) lines × Appends old new lines)
 
-no_lines : (s : Shape) (bytes : List ℕ) → AreOfStripes s bytes [] []
+no_lines : (s : Shape) (bytes : List ℕ) → AreLinesOfStripes s bytes [] []
 no_lines s bytes = record { rows = []; has_rows = record { parts = []; stripes = tt; rows_are = refl }; have_json = inl refl; lines_are = refl }
 
 pub printed_none : (told : Option (List ℕ)) (s : Shape) (infos : List StripeInfo) (first : ℕ) (known : Option (List ℕ)) → Printed told s infos first first known known
 printed_none None s infos first known = tt
 printed_none (Some all) s infos first known =
     let none : 0 ≡ first - first = omega arith in
-    ([], subst (λ (k : ℕ). AreOfStripes s all (take k (drop first infos)) []) none (no_lines s all), appends_none known)
+    ([], subst (λ (k : ℕ). AreLinesOfStripes s all (take k (drop first infos)) []) none (no_lines s all), appends_none known)
 
 -- a stripe of those from a number on
 at_drop : (infos : List StripeInfo) (first k : ℕ) → stripe_at (drop first infos) k ≡ stripe_at infos (first + k)
@@ -96,16 +97,16 @@ printed_next (Some all) s infos first n old mid new le lt p q =
     let more : k + 1 ≡ n + 1 - first = omega (arith, le) in
     let own = subst (λ (i : StripeInfo). AreOfStripe s i (stripe_bytes i all) q.0) (sym same) q.1 in (
       p.0 ++ q.0,
-      subst (λ (m : ℕ). AreOfStripes s all (take m (drop first infos)) (p.0 ++ q.0)) more (more_lines s all (drop first infos) k p.0 q.0 there p.1 own),
+      subst (λ (m : ℕ). AreLinesOfStripes s all (take m (drop first infos)) (p.0 ++ q.0)) more (more_lines s all (drop first infos) k p.0 q.0 there p.1 own),
       appends_more old mid new p.0 q.0 p.2 q.2,
     )
 
 pub printed_all : (told : Option (List ℕ)) (s : Shape) (infos : List StripeInfo) (first n : ℕ) (old new : Option (List ℕ)) → n ≡ length infos → Printed told s infos first n old new
-    → IfSome told (λ all. (lines : List ℕ) × AreOfStripes s all (drop first infos) lines × Appends old new lines)
+    → IfSome told (λ all. (lines : List ℕ) × AreLinesOfStripes s all (drop first infos) lines × Appends old new lines)
 printed_all None s infos first n old new e p = tt
 printed_all (Some all) s infos first n old new e p =
     let long : n - first ≡ length (drop first infos) = (let l = length-drop first infos in omega (arith, e, l)) in
-    (p.0, subst (λ (t : List StripeInfo). AreOfStripes s all t p.0) (ap (λ (k : ℕ). take k (drop first infos)) long ∙ take-length (drop first infos)) p.1, p.2)
+    (p.0, subst (λ (t : List StripeInfo). AreLinesOfStripes s all t p.0) (ap (λ (k : ℕ). take k (drop first infos)) long ∙ take-length (drop first infos)) p.1, p.2)
 
 -- ---- where printing ends
 
@@ -136,32 +137,28 @@ ends_in (Some all) tail first n old mid new fault le lt p h = record {
 -- ---- a file
 
 pub printed_file : (told : Option (List ℕ)) (tail : Tail) (start : Option Start) (old new : Option (List ℕ)) → IfSome told (λ bytes. IsTail bytes tail)
-    → IfSome told (λ all. (lines : List ℕ) × AreLines all tail start lines × Appends old new lines) → IfSome told (λ bytes. ArePrinted bytes start old new)
+    → IfSome told (λ all. (lines : List ℕ) × AreLinesOfFile all tail start lines × Appends old new lines) → IfSome told (λ bytes. ArePrinted bytes start old new)
 printed_file None tail start old new is h = tt
 printed_file (Some bytes) tail start old new is h = (tail, h.0, is, h.1, h.2)
 
 pub refused_file : (told : Option (List ℕ)) (tail : Tail) (start : Option Start) (old new : Option (List ℕ)) (fault : CliFault) → IfSome told (λ bytes. IsTail bytes tail)
-    → IfSome told (λ all. Stops all tail start old new fault) → IfSome told (λ bytes. RefusesFile bytes start old new fault)
+    → IfSome told (λ all. PrintingStops all tail start old new fault) → IfSome told (λ bytes. RefusesFile bytes start old new fault)
 refused_file None tail start old new fault is h = tt
 refused_file (Some bytes) tail start old new fault is (inl h) = inl (inr (inr h.0), h.1)
 refused_file (Some bytes) tail start old new fault is (inr h) = inr (tail, is, h)
 
-pub keeps_itself : (known : Option (List ℕ)) → Keeps known known
-keeps_itself None = tt
-keeps_itself (Some bytes) = refl
-
 pub no_printer : (told : Option (List ℕ)) (tail : Tail) (start : Option Start) (known : Option (List ℕ)) (fault : CliFault) → IsWantOfMemory fault
-    → IfSome told (λ all. Stops all tail start known known fault)
+    → IfSome told (λ all. PrintingStops all tail start known known fault)
 no_printer None tail start known fault h = tt
 no_printer (Some all) tail start known fault h = inl (h, keeps_itself known)
 
 pub printer_ends : {A : Type 0} (r : Result A CliFault) (told : Option (List ℕ)) (tail : Tail) (start : Option Start) (old new : Option (List ℕ))
-    → IfErr r (λ fault. IfSome told (λ all. Ends all tail start old new fault)) → IfErr r (λ fault. IfSome told (λ all. Stops all tail start old new fault))
+    → IfErr r (λ fault. IfSome told (λ all. PrintingEnds all tail start old new fault)) → IfErr r (λ fault. IfSome told (λ all. PrintingStops all tail start old new fault))
 printer_ends (Ok x) told tail start old new h = tt
 printer_ends (Err fault) None tail start old new h = tt
 printer_ends (Err fault) (Some all) tail start old new h = inr h
 
-pub refused_open : (told : Option (List ℕ)) (start : Option Start) (known : Option (List ℕ)) (why : FileFault) → ReadFault told why (λ bytes. OpenFault bytes why)
+pub refused_open : (told : Option (List ℕ)) (start : Option Start) (known : Option (List ℕ)) (why : FileFault) → ReadFault told why (λ bytes. TailOpenFault bytes why)
     → IfSome told (λ bytes. RefusesFile bytes start known known (File why))
 refused_open None start known why h = tt
 refused_open (Some bytes) start known why (inl memory) = inl (inr (inr (inl (ap File memory))), keeps_itself known)
@@ -185,13 +182,13 @@ record HasOwn (s : Shape) (info : StripeInfo) (bytes : List ℕ) (all : List Cel
   none : all ≡ [] → rows ≡ []
 
 own_rows : (s : Shape) (bytes : List ℕ) (infos : List StripeInfo) (parts : List (List Cell)) (n : ℕ) → n < length infos → RowsOfStripes s bytes infos parts
-    → HasOwn s (stripe_at infos n) (stripe_bytes (stripe_at infos n) bytes) (joined parts)
+    → HasOwn s (stripe_at infos n) (stripe_bytes (stripe_at infos n) bytes) (rows_together parts)
 own_rows s bytes [] parts n lt p = absurd (omega (arith, lt))
 own_rows s bytes (i ∷ is) [] n lt p = absurd p
-own_rows s bytes (i ∷ is) (x ∷ xs) zero lt p = record { rows = x; stripe = p.0; none = λ e. none_first x (joined xs) e }
+own_rows s bytes (i ∷ is) (x ∷ xs) zero lt p = record { rows = x; stripe = p.0; none = λ e. none_first x (rows_together xs) e }
 own_rows s bytes (i ∷ is) (x ∷ xs) (suc n) lt p =
     let h = own_rows s bytes is xs n (omega (arith, lt)) p.1 in
-    record { rows = h.rows; stripe = h.stripe; none = λ e. h.none (none_second x (joined xs) e) }
+    record { rows = h.rows; stripe = h.stripe; none = λ e. h.none (none_second x (rows_together xs) e) }
 
 stops_nowhere : (s : Shape) (bytes : List ℕ) (infos : List StripeInfo) (n : ℕ) (rows : List Cell) (fault : CliFault) → n < length infos → HasRows s bytes infos rows → HaveJson s rows
     → StripeStops s bytes n (stripe_at infos n) fault → ⊥
@@ -252,11 +249,11 @@ not_asked told from fault none h =
 
 -- ---- whose want of memory it is
 
-pub rows_want : (fault : CliFault) → IsOfRows fault → IsWantOfMemory fault → IsWantOfRows fault
+pub rows_want : (fault : CliFault) → RefusesRows fault → IsWantOfMemory fault → IsWantOfRows fault
 rows_want fault h (inl e) = inr e
-rows_want fault h (inr (inl e)) = absurd (subst (λ (f : CliFault). IsOfRows f) e h)
+rows_want fault h (inr (inl e)) = absurd (subst (λ (f : CliFault). RefusesRows f) e h)
 rows_want fault h (inr (inr (inl e))) = inl e
-rows_want fault h (inr (inr (inr e))) = absurd (subst (λ (f : CliFault). IsOfRows f) e h)
+rows_want fault h (inr (inr (inr e))) = absurd (subst (λ (f : CliFault). RefusesRows f) e h)
 
-pub no_place_layer : (from : Option (Bor (List ℕ))) (fault : CliFault) → IsNotAsked from fault → IsOfRows fault
-no_place_layer from fault h = subst (λ (f : CliFault). IsOfRows f) (sym h.0) tt
+pub no_place_layer : (from : Option (Bor (List ℕ))) (fault : CliFault) → IsNotAsked from fault → RefusesRows fault
+no_place_layer from fault h = subst (λ (f : CliFault). RefusesRows f) (sym h.0) tt

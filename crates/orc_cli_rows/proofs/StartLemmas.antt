@@ -5,7 +5,7 @@ use Rattle.std.specs.Str.Parse.{AllDigits}
 use Rattle.std.specs.Char.{digit_value}
 use Rattle.std.proofs.lemmas.Bool.{eqb-true, ne_eqb}
 use Rattle.std.proofs.lemmas.List.Sums.{split_at_first, passes_at_first}
-use Rattle.orc_cli_rows.specs.FromGroup.{IsStart}
+use Rattle.orc_cli_rows.specs.FromGroup.{IsStartText}
 
 abbrev pub is_colon : ℕ → Bool
 is_colon c = c == 58
@@ -43,6 +43,6 @@ joined_again text there =
     split_at_first is_colon text 0 there ∙ ap (λ (c : ℕ). before_first is_colon text ++ c ∷ after_first is_colon text) colon
 
 -- the parts of a text that names a place
-pub start_parts : (text : List ℕ) (stripe group : ℕ) (h : IsStart text stripe group) → (before_first is_colon text ≡ h.before) × (after_first is_colon text ≡ h.behind) × (position_or_len is_colon text < length text)
+pub start_parts : (text : List ℕ) (stripe group : ℕ) (h : IsStartText text stripe group) → (before_first is_colon text ≡ h.before) × (after_first is_colon text ≡ h.behind) × (position_or_len is_colon text < length text)
 start_parts text stripe group h =
     subst (λ (t : List ℕ). (before_first is_colon t ≡ h.before) × (after_first is_colon t ≡ h.behind) × (position_or_len is_colon t < length t)) (sym h.parts) (cut_there h.before h.behind h.stripe_is.numeral.1)

@@ -6,25 +6,25 @@ use Rattle.std.specs.Io.KnownBytes.{Appends, Keeps}
 use Rattle.orc_wire.specs.declared.stripe_footer.StripeFooter.{StripeFooter}
 use Rattle.orc_values.specs.Cells.{Cell}
 use Rattle.orc_values.specs.Fits.{RowsFit}
-use Rattle.orc_types.specs.FieldNames.{is_distinct}
-use Rattle.orc_types.specs.declared.json_fault.JsonFault.TheVariants as json
-use Rattle.orc_json.specs.Texts.{Prints}
+use Rattle.orc_json_rows.specs.FieldNames.{is_distinct}
+use Rattle.orc_json_rows.specs.declared.json_fault.JsonFault.TheVariants as json
+use Rattle.orc_json_printer.specs.Texts.{Prints}
 use Rattle.orc_column_reader.specs.Faults.{RowsFault}
 use Rattle.orc_column_reader.specs.Stripe.{Streams, HasFooter, SpellRows, columns_of}
-use Rattle.orc_column_reader.specs.declared.fault.StripeFault.{StripeFault}
-use Rattle.orc_column_reader.specs.declared.fault.StripeFault.TheVariants as stripe
-use Rattle.orc_stripe.specs.Opened.{Opened}
-use Rattle.orc_stripe.specs.Opening.{OpenFault}
-use Rattle.orc_stripe.specs.Cursors.{IsGoing, HasRefused, StandsFor, MeetsFault}
-use Rattle.orc_stripe.specs.GroupCursors.{HasGroup, HasEntries, StartsGroup, SpellsFrom, MeetsFrom, GroupFault}
-use Rattle.orc_stripe.specs.declared.cursor.RowCursor.{RowCursor}
-use Rattle.orc_stripe.proofs.OneStripe.{one_footer}
-use Rattle.orc_stripe.proofs.SpelledBehind.{one_behind, fits_behind}
-use Rattle.orc_tail.specs.Stripes.{stripe_at}
+use Rattle.orc_directory.specs.declared.fault.StripeFault.{StripeFault}
+use Rattle.orc_directory.specs.declared.fault.StripeFault.TheVariants as stripe
+use Rattle.orc_stripe_reader.specs.Opened.{Opened}
+use Rattle.orc_stripe_reader.specs.Opening.{StripeOpenFault}
+use Rattle.orc_stripe_reader.specs.Cursors.{IsGoing, HasRefused, StandsFor, MeetsFault}
+use Rattle.orc_stripe_reader.specs.GroupCursors.{HasGroup, HasEntries, StartsGroup, SpellsFrom, MeetsFrom, GroupFault}
+use Rattle.orc_stripe_reader.specs.declared.cursor.RowCursor.{RowCursor}
+use Rattle.orc_stripe_reader.proofs.OneStripe.{one_footer}
+use Rattle.orc_stripe_reader.proofs.SpelledBehind.{one_behind, fits_behind}
+use Rattle.orc_tail.specs.Stripes.{stripe_at, stripe_bytes}
 use Rattle.orc_tail.specs.declared.fault.FileFault.{FileFault}
 use Rattle.orc_tail.specs.declared.fault.FileFault.TheVariants as file
 use Rattle.orc_tail.specs.declared.tail.Tail.{Tail}
-use Rattle.orc_file.specs.FileRows.{stripe_bytes, opened_stripe, IsNoStripe}
+use Rattle.orc_file_reader.specs.FileRows.{opened_stripe, IsNoStripe}
 use Rattle.orc_cli_output.specs.Output.{write_failed, AppendsPart, IsWantOfMemory}
 use Rattle.orc_cli_output.specs.declared.fault.CliFault.{CliFault}
 use Rattle.orc_cli_output.specs.declared.fault.CliFault.TheVariants.{File, Json}
@@ -33,7 +33,8 @@ use Rattle.orc_cli_rows.specs.FromGroup.{AreRowsFrom, AreFromGroup, StopsFrom, S
 use Rattle.orc_cli_rows.specs.Pieces.{text_lines}
 use Rattle.orc_cli_rows.specs.OneStripe.{IsOpened, AreRowsOf, HasNoRows, AreLinesOf, IsPrinted, HasNoLines, EndsWithin, AreLinesAt, EndsAtStripe}
 use Rattle.orc_cli_rows.proofs.CursorLemmas.{lines_of_rows, never_refused}
-use Rattle.orc_cli_rows.proofs.RowsLemmas.{appends_none, keeps_itself}
+use Rattle.orc_cli_rows.proofs.RowsLemmas.{appends_none}
+use Rattle.orc_io.proofs.Told.{keeps_itself}
 
 -- ---- rows
 
@@ -201,7 +202,7 @@ module _ (tail : Tail) (n : ℕ) (bytes : List ℕ) (view : Opened) (is : IsView
 
 unopened_at : (all : List ℕ) (tail : Tail) (n : ℕ) (bytes : List ℕ) (from : Option ℕ) (known : Option (List ℕ)) (why : StripeFault) (fault : CliFault) → bytes ≡ stripe_bytes (stripe_at tail.stripes n) all
     → fault ≡ File (file.Stripe n why) → why ≢ stripe.OutOfMemory → ((footer : StripeFooter) → HasFooter tail.schema (stripe_at tail.stripes n) bytes footer → ⊥)
-    → OpenFault tail.schema (stripe_at tail.stripes n) bytes why → EndsAtStripe all tail n from known known fault
+    → StripeOpenFault tail.schema (stripe_at tail.stripes n) bytes why → EndsAtStripe all tail n from known known fault
 unopened_at all tail n bytes None known why fault same e other never bad =
     let none : IsNoStripe tail.schema (stripe_at tail.stripes n) bytes why = record { none = λ rows is. never is.footer is.has_footer; reason = inl bad } in
     inl (inl (inl (file.Stripe n why, e, (why, refl, other, subst (λ (b : List ℕ). IsNoStripe tail.schema (stripe_at tail.stripes n) b why) same none))), appends_none known)
@@ -217,7 +218,7 @@ memory_ends (Some all) tail n (Some group) known fault want = inl (inr (inr want
 
 pub unopened_ends : (told : Option (List ℕ)) (tail : Tail) (n : ℕ) (bytes : List ℕ) (from : Option ℕ) (known : Option (List ℕ)) (fault : FileFault) → IfSome told (λ all. bytes ≡ stripe_bytes (stripe_at tail.stripes n) all)
     → ((footer : StripeFooter) → HasFooter tail.schema (stripe_at tail.stripes n) bytes footer → fault ≡ file.OutOfMemory)
-    → (fault ≡ file.OutOfMemory) ⊎ ((why : StripeFault) × (fault ≡ file.Stripe n why) × (why ≢ stripe.OutOfMemory) × OpenFault tail.schema (stripe_at tail.stripes n) bytes why)
+    → (fault ≡ file.OutOfMemory) ⊎ ((why : StripeFault) × (fault ≡ file.Stripe n why) × (why ≢ stripe.OutOfMemory) × StripeOpenFault tail.schema (stripe_at tail.stripes n) bytes why)
     → IfSome told (λ all. EndsAtStripe all tail n from known known (File fault))
 unopened_ends told tail n bytes from known fault same only (inl memory) = memory_ends told tail n from known (File fault) (inl (ap File memory))
 unopened_ends None tail n bytes from known fault same only (inr h) = tt

@@ -3,34 +3,34 @@ use Rattle.std.specs.Prelude.{◌≡◌, ◌≢◌, ℕ, ◌+◌, ◌*◌, ◌<�
 use Rattle.std.specs.Io.KnownBytes.{Appends, Keeps}
 use Rattle.orc_wire.specs.declared.stripe_footer.StripeFooter.{StripeFooter}
 use Rattle.orc_values.specs.Cells.{Cell}
-use Rattle.orc_types.specs.FieldNames.{is_distinct}
+use Rattle.orc_json_rows.specs.FieldNames.{is_distinct}
 use Rattle.orc_values.specs.Fits.{RowsFit}
-use Rattle.orc_types.specs.declared.json_fault.JsonFault.TheVariants as json
+use Rattle.orc_json_rows.specs.declared.json_fault.JsonFault.TheVariants as json
 use Rattle.orc_column_reader.specs.Stripe.{Streams, HasFooter}
-use Rattle.orc_column_reader.specs.declared.fault.StripeFault.{StripeFault}
-use Rattle.orc_column_reader.specs.declared.fault.StripeFault.TheVariants as stripe
-use Rattle.orc_stripe.specs.Opened.{Opened}
-use Rattle.orc_stripe.specs.Opening.{OpenFault}
-use Rattle.orc_stripe.specs.GroupCursors.{HasGroup, HasEntries, StartsGroup, SpellsFrom, MeetsFrom, GroupFault}
-use Rattle.orc_tail.specs.Stripes.{stripe_at}
-use Rattle.orc_file.specs.FileRows.{stripe_bytes, opened_stripe}
+use Rattle.orc_directory.specs.declared.fault.StripeFault.{StripeFault}
+use Rattle.orc_directory.specs.declared.fault.StripeFault.TheVariants as stripe
+use Rattle.orc_stripe_reader.specs.Opened.{Opened}
+use Rattle.orc_stripe_reader.specs.Opening.{StripeOpenFault}
+use Rattle.orc_stripe_reader.specs.GroupCursors.{HasGroup, HasEntries, StartsGroup, SpellsFrom, MeetsFrom, GroupFault}
+use Rattle.orc_tail.specs.Stripes.{stripe_at, stripe_bytes}
+use Rattle.orc_file_reader.specs.FileRows.{opened_stripe}
 use Rattle.orc_tail.specs.declared.tail.Tail.{Tail}
 use Rattle.orc_tail.specs.declared.fault.FileFault.TheVariants.{Stripe, BadStripe}
-use Rattle.orc_cli_output.specs.Numbers.{IsNumber}
+use Rattle.orc_cli_output.specs.Numbers.{IsDecimalNumber}
 use Rattle.orc_cli_output.specs.Output.{write_failed, AppendsPart, IsOfSource}
 use Rattle.orc_cli_output.specs.declared.fault.CliFault.{CliFault}
 use Rattle.orc_cli_output.specs.declared.fault.CliFault.TheVariants.{Json, File}
-use Rattle.orc_cli_rows.specs.Rows.{row_lines, HaveJson, AreOfStripes, EndsIn}
+use Rattle.orc_cli_rows.specs.Rows.{row_lines, HaveJson, AreLinesOfStripes, EndsIn}
 
 -- ---- where to start
 
 -- the number of a stripe and that of a group in it, with a colon between them
-pub record IsStart (text : List ℕ) (stripe group : ℕ) : Type 0 where
+pub record IsStartText (text : List ℕ) (stripe group : ℕ) : Type 0 where
   pub before : List ℕ
   pub behind : List ℕ
   pub parts : text ≡ before ++ 58 ∷ behind
-  pub stripe_is : IsNumber before stripe
-  pub group_is : IsNumber behind group
+  pub stripe_is : IsDecimalNumber before stripe
+  pub group_is : IsDecimalNumber behind group
 
 -- ---- the first stripe
 
@@ -76,7 +76,7 @@ pub record StopsAtGroup (tail : Tail) (n : ℕ) (bytes : List ℕ) (group : ℕ)
   pub none : (footer : StripeFooter) (x : ℕ → Streams) (all : List Cell)
       → HasFooter tail.schema (stripe_at tail.stripes n) bytes footer
       → StartsGroup (opened_stripe tail n bytes footer) x all group → ⊥
-  pub reason : OpenFault tail.schema (stripe_at tail.stripes n) bytes why
+  pub reason : StripeOpenFault tail.schema (stripe_at tail.stripes n) bytes why
       ⊎ ((footer : StripeFooter) × HasFooter tail.schema (stripe_at tail.stripes n) bytes footer
       × StopsFrom (opened_stripe tail n bytes footer) group why)
 
@@ -96,12 +96,12 @@ NoLinesFrom tail n bytes group fault =
 -- ---- the file
 
 -- the lines from a group of a stripe on: those of the stripe's rows there, and of all stripes behind it
-pub record AreFrom (bytes : List ℕ) (tail : Tail) (n group : ℕ) (lines : List ℕ) : Type 0 where
+pub record AreLinesFromGroup (bytes : List ℕ) (tail : Tail) (n group : ℕ) (lines : List ℕ) : Type 0 where
   pub there : n < length tail.stripes
   pub first : List ℕ
   pub rest : List ℕ
   pub of_group : AreLinesFrom tail n (stripe_bytes (stripe_at tail.stripes n) bytes) group first
-  pub of_later : AreOfStripes tail.schema bytes (drop (n + 1) tail.stripes) rest
+  pub of_later : AreLinesOfStripes tail.schema bytes (drop (n + 1) tail.stripes) rest
   pub lines_are : lines ≡ first ++ rest
 
 -- a part of a stripe's lines from a group on is out

@@ -2,16 +2,16 @@
 use Rattle.std.specs.Prelude.{◌≡◌, ◌≢◌, ℕ, List, [], false, ◌⊎◌, Option, Some, None}
 use Rattle.std.specs.Io.KnownBytes.{Appends}
 use Rattle.orc_values.specs.Cells.{Cell}
-use Rattle.orc_types.specs.FieldNames.{is_distinct}
-use Rattle.orc_types.specs.declared.json_fault.JsonFault.TheVariants as json
+use Rattle.orc_json_rows.specs.FieldNames.{is_distinct}
+use Rattle.orc_json_rows.specs.declared.json_fault.JsonFault.TheVariants as json
 use Rattle.orc_column_reader.specs.Stripe.{HasFooter, IsStripe}
-use Rattle.orc_column_reader.specs.declared.fault.StripeFault.{StripeFault}
-use Rattle.orc_column_reader.specs.declared.fault.StripeFault.TheVariants as stripe
-use Rattle.orc_stripe.specs.Opened.{Opened}
+use Rattle.orc_directory.specs.declared.fault.StripeFault.{StripeFault}
+use Rattle.orc_directory.specs.declared.fault.StripeFault.TheVariants as stripe
+use Rattle.orc_stripe_reader.specs.Opened.{Opened}
 use Rattle.orc_tail.specs.Stripes.{stripe_at}
 use Rattle.orc_tail.specs.declared.tail.Tail.{Tail}
 use Rattle.orc_tail.specs.declared.fault.FileFault.TheVariants.{Stripe}
-use Rattle.orc_file.specs.FileRows.{IsNoStripe}
+use Rattle.orc_file_reader.specs.FileRows.{IsNoStripe}
 use Rattle.orc_cli_output.specs.Output.{write_failed, AppendsPart, IsWantOfMemory}
 use Rattle.orc_cli_output.specs.declared.fault.CliFault.{CliFault}
 use Rattle.orc_cli_output.specs.declared.fault.CliFault.TheVariants.{Json, File}

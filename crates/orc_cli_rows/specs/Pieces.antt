@@ -3,9 +3,9 @@ use Rattle.std.specs.Prelude.{◌≡◌, ℕ, List, [], ◌∷◌, ◌++◌, Boo
 use Rattle.std.specs.List.{flat_map}
 use Rattle.std.specs.Io.KnownBytes.{Appends}
 use Rattle.orc_values.specs.Cells.{Cell}
-use Rattle.orc_json.specs.Outputs.{Puts}
-use Rattle.orc_stripe.specs.Cursors.{StandsFor}
-use Rattle.orc_stripe.specs.declared.cursor.RowCursor.{RowCursor}
+use Rattle.orc_json_printer.specs.Outputs.{Puts}
+use Rattle.orc_stripe_reader.specs.Cursors.{StandsFor}
+use Rattle.orc_stripe_reader.specs.declared.cursor.RowCursor.{RowCursor}
 use Rattle.orc_cli_output.specs.Output.{AppendsPart}
 use Rattle.orc_cli_rows.specs.declared.held.Held.{Held}
 

@@ -1,9 +1,9 @@
 -- How rows are printed (own).
 use Rattle.std.specs.Prelude.{◌≡◌, true, false}
 use Rattle.orc_values.specs.Shapes.{Shape}
-use Rattle.orc_types.specs.FieldNames.{is_distinct}
-use Rattle.orc_json.specs.Layouts.{text_by}
-use Rattle.orc_json.specs.Texts.{Prints}
+use Rattle.orc_json_rows.specs.FieldNames.{is_distinct}
+use Rattle.orc_json_printer.specs.Layouts.{text_by}
+use Rattle.orc_json_printer.specs.Texts.{Prints}
 use Rattle.orc_column_text.specs.LaidOut.{IsLaidOut}
 use Rattle.orc_cli_rows.specs.declared.plan.Plan.{Plan}
 use Rattle.orc_cli_rows.specs.declared.plan.Plan.TheVariants as plan

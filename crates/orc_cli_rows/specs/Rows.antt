@@ -6,12 +6,12 @@ use Rattle.serde_json.specs.Written.{compact_text}
 use Rattle.orc_wire.specs.declared.stripe_info.StripeInfo.{StripeInfo}
 use Rattle.orc_values.specs.Cells.{Cell}
 use Rattle.orc_values.specs.Shapes.{Shape}
-use Rattle.orc_types.specs.FieldNames.{is_distinct}
-use Rattle.orc_types.specs.JsonPrinting.{json_of}
-use Rattle.orc_types.specs.declared.json_fault.JsonFault.TheVariants as json
+use Rattle.orc_json_rows.specs.FieldNames.{is_distinct}
+use Rattle.orc_json_rows.specs.JsonPrinting.{json_of}
+use Rattle.orc_json_rows.specs.declared.json_fault.JsonFault.TheVariants as json
 use Rattle.orc_column_reader.specs.Stripe.{IsStripe}
-use Rattle.orc_tail.specs.Stripes.{stripe_at}
-use Rattle.orc_file.specs.FileRows.{stripe_bytes, HasRows, StripeRefused}
+use Rattle.orc_tail.specs.Stripes.{stripe_at, stripe_bytes}
+use Rattle.orc_file_reader.specs.FileRows.{HasRows, StripeRefused}
 use Rattle.orc_tail.specs.declared.tail.Tail.{Tail}
 use Rattle.orc_tail.specs.declared.fault.FileFault.{FileFault}
 use Rattle.orc_tail.specs.declared.fault.FileFault.TheVariants as file
@@ -39,7 +39,7 @@ pub record AreOfStripe (s : Shape) (info : StripeInfo) (bytes lines : List ℕ) 
   pub lines_are : lines ≡ row_lines s rows
 
 -- the lines are those of the stripes
-pub record AreOfStripes (s : Shape) (bytes : List ℕ) (infos : List StripeInfo) (lines : List ℕ) : Type 0 where
+pub record AreLinesOfStripes (s : Shape) (bytes : List ℕ) (infos : List StripeInfo) (lines : List ℕ) : Type 0 where
   pub rows : List Cell
   pub has_rows : HasRows s bytes infos rows
   pub have_json : HaveJson s rows
@@ -74,15 +74,15 @@ pub record EndsIn (bytes : List ℕ) (tail : Tail) (first : ℕ)
   pub begun : first ≤ n
   pub some : n < length tail.stripes
   pub lines : List ℕ
-  pub before : AreOfStripes tail.schema bytes (take (n - first) (drop first tail.stripes)) lines
+  pub before : AreLinesOfStripes tail.schema bytes (take (n - first) (drop first tail.stripes)) lines
   pub ends : EndsAt tail.schema bytes n (stripe_at tail.stripes n) lines old new fault
 
 -- the layers that refuse rows: that of JSON, and that of files
-abbrev pub IsOfRows : CliFault → Type 0
-IsOfRows (Run why) = ⊥
-IsOfRows (Types why) = ⊥
-IsOfRows (Json why) = Unit {0}
-IsOfRows (File why) = Unit {0}
+abbrev pub RefusesRows : CliFault → Type 0
+RefusesRows (Run why) = ⊥
+RefusesRows (Types why) = ⊥
+RefusesRows (Json why) = Unit {0}
+RefusesRows (File why) = Unit {0}
 
 -- The layers whose want of memory `rows` answers: that of JSON, for a row's text, and that of files, which is the
 -- program's own too.

@@ -2,7 +2,7 @@
 ghost use Rattle.std.specs.Prelude.{◌≡◌, [], true};
 ghost use Rattle.orc_cli_rows.specs.Pieces.{IsHeld};
 
-use orc_json::TextOutput;
+use orc_json_printer::TextOutput;
 use std::alloc::{AllocError, Global};
 
 /// How many bytes of a stripe's lines are held at most.

@@ -1,12 +1,12 @@
 //! Whether a stripe has rows, or has them from a group on, without any being held.
 ghost use Rattle.std.specs.Prelude.{◌≡◌, ◌≢◌, [], false, List, OnOk, IfErr};
 ghost use Rattle.orc_values.specs.Cells.{Cell};
-ghost use Rattle.orc_types.specs.FieldNames.{is_distinct};
+ghost use Rattle.orc_json_rows.specs.FieldNames.{is_distinct};
 ghost use Rattle.orc_column_reader.specs.Stripe.{IsStripe};
-ghost use Rattle.orc_column_reader.specs.declared.fault.StripeFault.TheVariants.{OutOfMemory};
+ghost use Rattle.orc_directory.specs.declared.fault.StripeFault.TheVariants.{OutOfMemory};
 ghost use Rattle.orc_column_text.specs.LaidOut.{IsLaidOut};
-ghost use Rattle.orc_file.specs.FileRows.{IsNoStripe};
-ghost use Rattle.orc_cli_rows.specs.Rows.{IsOfRows};
+ghost use Rattle.orc_file_reader.specs.FileRows.{IsNoStripe};
+ghost use Rattle.orc_cli_rows.specs.Rows.{RefusesRows};
 ghost use Rattle.orc_cli_rows.specs.FromGroup.{AreRowsFrom, StopsFrom};
 ghost use Rattle.orc_cli_rows.specs.OneStripe.{IsOpened, AreRowsOf, HasNoRows, HasNoLines};
 
@@ -15,10 +15,11 @@ use crate::nowhere::Nowhere;
 use crate::reading::rows_of;
 use orc_cli_output::CliFault;
 use orc_column_walk::walk_columns;
-use orc_json::layout::Layout;
-use orc_stripe::{StripeFault, StripeView};
+use orc_directory::StripeFault;
+use orc_json_printer::layout::Layout;
+use orc_json_rows::JsonFault;
+use orc_stripe_reader::StripeView;
 use orc_tail::stripe_fault;
-use orc_types::JsonFault;
 use std::alloc::Global;
 
 /// Reads all columns of a stripe, one after the other, and holds none.
@@ -68,7 +69,7 @@ pub(crate) fn judge(
     requires laid_out { IsLaidOut view.now.schema layout.now }
     ensures found { OnOk result ((rows : List Cell) × AreRowsOf view.now from rows) }
     ensures refused { IfErr result (HasNoLines view.now from number) }
-    ensures layer { IfErr result IsOfRows }
+    ensures layer { IfErr result RefusesRows }
 {
     let walked = match from {
         None => walk(alloc, view),
@@ -109,7 +110,7 @@ pub(crate) fn refuse_names(
     requires twice { is_distinct view.now.schema ≡ false }
     ensures none { OnOk result (AreRowsOf view.now from []) }
     ensures refused { IfErr result (HasNoLines view.now from number) }
-    ensures layer { IfErr result IsOfRows }
+    ensures layer { IfErr result RefusesRows }
 {
     if let Err(why) = read_rows(alloc, view, from) {
         return Err(CliFault::File(stripe_fault(number, why)));

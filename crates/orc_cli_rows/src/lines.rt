@@ -1,25 +1,27 @@
 //! The lines of rows that are there, and of those that a cursor has still to give.
 ghost use Rattle.std.specs.Prelude.{◌≡◌, ◌≢◌, ◌++◌, ◌⊎◌, [], List, IfOk, OnOk, IfErr, MatchResult, true, false};
-ghost use Rattle.orc_types.specs.FieldNames.{is_distinct};
+ghost use Rattle.orc_json_rows.specs.FieldNames.{is_distinct};
 ghost use Rattle.orc_values.specs.Cells.{Cell};
 ghost use Rattle.orc_values.specs.Fits.{RowsFit, fits};
 ghost use Rattle.orc_values.specs.Views.{view, views};
-ghost use Rattle.orc_types.specs.declared.json_fault.JsonFault.TheVariants as json;
+ghost use Rattle.orc_json_rows.specs.declared.json_fault.JsonFault.TheVariants as json;
 ghost use Rattle.orc_cli_output.specs.Output.{IsWantOfMemory};
 ghost use Rattle.orc_cli_output.specs.declared.fault.CliFault.TheVariants.{Json};
-ghost use Rattle.orc_column_reader.specs.declared.fault.StripeFault.TheVariants.{OutOfMemory, Failed};
+ghost use Rattle.orc_directory.specs.declared.fault.StripeFault.TheVariants.{OutOfMemory, Failed};
 ghost use Rattle.orc_column_text.specs.LaidOut.{IsLaidOut};
-ghost use Rattle.orc_json.specs.Layouts.{text_by};
-ghost use Rattle.orc_json.specs.Outputs.{Puts};
-ghost use Rattle.orc_stripe.specs.Cursors.{row_type, IsGoing, StandsFor, MeetsFault};
+ghost use Rattle.orc_json_printer.specs.Layouts.{text_by};
+ghost use Rattle.orc_json_printer.specs.Outputs.{Puts};
+ghost use Rattle.orc_stripe_reader.specs.Cursors.{row_type, IsGoing, StandsFor, MeetsFault};
 ghost use Rattle.orc_cli_rows.specs.Pieces.{text_lines, IsHeld, PutsAll, PutsFront};
-ghost use Rattle.orc_cli_rows.specs.Rows.{row_line, row_lines, HaveJson, IsOfRows};
+ghost use Rattle.orc_cli_rows.specs.Rows.{row_line, row_lines, HaveJson, RefusesRows};
 
 use crate::held::Held;
 use orc_cli_output::CliFault;
-use orc_json::layout::Layout;
-use orc_json::{RowPrinter, TextOutput};
-use orc_stripe::{RowCursor, StripeFault};
+use orc_directory::StripeFault;
+use orc_json::RowPrinter;
+use orc_json_printer::TextOutput;
+use orc_json_printer::layout::Layout;
+use orc_stripe_reader::RowCursor;
 use orc_values::Row;
 use std::alloc::Global;
 
@@ -30,7 +32,7 @@ fn push_line(printer: &RowPrinter, row: &Row<'_>, lines: &mut Vec<u8>) -> Result
     ensures distinct { OnOk result (is_distinct printer.now ≡ true) }
     ensures fault { IfErr result (λ fault. ((fault ≡ Json json.DuplicateField) × (is_distinct printer.now ≡ false))
         ⊎ IsWantOfMemory fault) }
-    ensures layer { IfErr result IsOfRows }
+    ensures layer { IfErr result RefusesRows }
 {
     printer.push_row(row, lines)?;
     lines.extend_from_slice(b"\n")?;
@@ -49,7 +51,7 @@ pub(crate) fn lines_of(
     ensures fault { IfErr result (λ fault.
         ((fault ≡ Json json.DuplicateField) × (views rows.now ≢ []) × (is_distinct printer.now ≡ false))
         ⊎ IsWantOfMemory fault) }
-    ensures layer { IfErr result IsOfRows }
+    ensures layer { IfErr result RefusesRows }
 {
     let mut lines = Vec::new(alloc);
     for row in rows {

@@ -1,7 +1,7 @@
 //! An output that keeps nothing.
 ghost use Rattle.std.specs.Prelude.{true};
 
-use orc_json::TextOutput;
+use orc_json_printer::TextOutput;
 use std::alloc::AllocError;
 
 /// What is put here is gone: rows are read, and no text of them is kept.

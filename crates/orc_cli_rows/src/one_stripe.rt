@@ -2,13 +2,13 @@
 ghost use Rattle.std.specs.Prelude.{◌≡◌, ◌++◌, true, false, List, IfOk, OnOk, IfErr, OnErr};
 ghost use Rattle.std.specs.Io.KnownBytes.{Appends};
 ghost use Rattle.orc_values.specs.Cells.{Cell};
-ghost use Rattle.orc_types.specs.FieldNames.{is_distinct};
-ghost use Rattle.orc_json.specs.Layouts.{text_by};
-ghost use Rattle.orc_json.specs.Texts.{Prints};
+ghost use Rattle.orc_json_rows.specs.FieldNames.{is_distinct};
+ghost use Rattle.orc_json_printer.specs.Layouts.{text_by};
+ghost use Rattle.orc_json_printer.specs.Texts.{Prints};
 ghost use Rattle.orc_column_text.specs.LaidOut.{IsLaidOut};
-ghost use Rattle.orc_stripe.specs.Cursors.{row_type, StandsFor};
+ghost use Rattle.orc_stripe_reader.specs.Cursors.{row_type, StandsFor};
 ghost use Rattle.orc_cli_output.specs.Output.{write_failed, AppendsPart};
-ghost use Rattle.orc_cli_rows.specs.Rows.{IsOfRows};
+ghost use Rattle.orc_cli_rows.specs.Rows.{RefusesRows};
 ghost use Rattle.orc_cli_rows.specs.Pieces.{text_lines};
 ghost use Rattle.orc_cli_rows.specs.OneStripe.{IsOpened, AreRowsOf, IsPrinted, EndsWithin};
 ghost use Rattle.orc_cli_rows.specs.Plans.{IsPlanOf};
@@ -20,11 +20,12 @@ use crate::pieces::Pieces;
 use crate::plan::Plan;
 use crate::reading::{cursor_of, rows_of};
 use orc_cli_output::{CliFault, write_out};
-use orc_file::FileFault;
-use orc_json::layout::Layout;
-use orc_json::{RowPrinter, TextOutput};
-use orc_stripe::{RowCursor, StripeFault, StripeView};
-use orc_tail::stripe_fault;
+use orc_directory::StripeFault;
+use orc_json::RowPrinter;
+use orc_json_printer::TextOutput;
+use orc_json_printer::layout::Layout;
+use orc_stripe_reader::{RowCursor, StripeView};
+use orc_tail::{FileFault, stripe_fault};
 use std::alloc::Global;
 use std::io::Write;
 
@@ -113,7 +114,7 @@ fn print_judged<W: Write>(
     requires laid_out { IsLaidOut view.now.schema layout.now }
     ensures written { OnOk result (IsPrinted view.now from (W.contents out.old) (W.contents out.new)) }
     ensures refused { IfErr result (EndsWithin view.now from number (W.contents out.old) (W.contents out.new)) }
-    ensures layer { IfErr result IsOfRows }
+    ensures layer { IfErr result RefusesRows }
 {
     judge(alloc, number, view, from, layout)?;
     match cursor_of(alloc, view, from) {
@@ -138,7 +139,7 @@ fn print_read<W: Write>(
     requires laid_out { IsLaidOut view.now.schema layout.now }
     ensures written { OnOk result (IsPrinted view.now from (W.contents out.old) (W.contents out.new)) }
     ensures refused { IfErr result (EndsWithin view.now from number (W.contents out.old) (W.contents out.new)) }
-    ensures layer { IfErr result IsOfRows }
+    ensures layer { IfErr result RefusesRows }
 {
     if let Ok(front) = hold_front(alloc, view, from, layout) {
         let Front {
@@ -170,7 +171,7 @@ fn print_made<W: Write>(
     requires of_schema { printer.now ≡ view.now.schema }
     ensures written { OnOk result (IsPrinted view.now from (W.contents out.old) (W.contents out.new)) }
     ensures refused { IfErr result (EndsWithin view.now from number (W.contents out.old) (W.contents out.new)) }
-    ensures layer { IfErr result IsOfRows }
+    ensures layer { IfErr result RefusesRows }
 {
     let rows = match rows_of(alloc, view, from) {
         Ok(rows) => rows,
@@ -193,7 +194,7 @@ pub(crate) fn print_view<W: Write>(
     requires planned { IsPlanOf view.now.schema plan }
     ensures written { OnOk result (IsPrinted view.now from (W.contents out.old) (W.contents out.new)) }
     ensures refused { IfErr result (EndsWithin view.now from number (W.contents out.old) (W.contents out.new)) }
-    ensures layer { IfErr result IsOfRows }
+    ensures layer { IfErr result RefusesRows }
 {
     match plan {
         Plan::Straight(layout) => print_read(alloc, number, view, from, layout, out),

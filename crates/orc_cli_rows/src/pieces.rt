@@ -1,11 +1,11 @@
 //! Text that goes out in pieces.
 ghost use Rattle.std.specs.Prelude.{◌≡◌, List, ℕ, [], false};
-ghost use Rattle.orc_json.specs.Outputs.{Puts};
+ghost use Rattle.orc_json_printer.specs.Outputs.{Puts};
 ghost use Rattle.orc_cli_rows.specs.Pieces.{spelled_start, IsGiven};
 
 use arrayvec::ArrayVec;
 use orc_cli_output::write_out;
-use orc_json::TextOutput;
+use orc_json_printer::TextOutput;
 use std::alloc::AllocError;
 use std::io::Write;
 

@@ -4,7 +4,7 @@ ghost use Rattle.orc_cli_rows.specs.Plans.{IsPlanOf};
 
 use orc_column_text::is_laid_out;
 use orc_json::RowPrinter;
-use orc_json::layout::Layout;
+use orc_json_printer::layout::Layout;
 use orc_types::Schema;
 
 /// How rows are printed.

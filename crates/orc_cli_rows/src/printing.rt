@@ -4,23 +4,25 @@ ghost use Rattle.std.specs.Io.KnownBytes.{Appends, Keeps};
 ghost use Rattle.orc_values.specs.Cells.{Cell};
 ghost use Rattle.orc_io.specs.Leaves.{LeavesSource, HandsBackSource};
 ghost use Rattle.orc_tail.specs.Caps.{no_cap};
-ghost use Rattle.orc_file.specs.FileRows.{FileIs};
+ghost use Rattle.orc_file_reader.specs.FileRows.{FileIs};
 ghost use Rattle.orc_tail.specs.declared.fault.FileFault.TheVariants.{SourceFailed};
 ghost use Rattle.orc_tail.specs.declared.tail.Tail.{Tail};
 ghost use Rattle.orc_cli_output.specs.Output.{IsOutsideFile, IsWantOfMemory};
 ghost use Rattle.orc_cli_output.specs.declared.fault.CliFault.TheVariants.{File};
-ghost use Rattle.orc_cli_rows.specs.Rows.{HaveJson, IsOfRows, IsWantOfRows};
-ghost use Rattle.orc_cli_rows.specs.FromGroup.{AreFrom, EndsFrom};
+ghost use Rattle.orc_cli_rows.specs.Rows.{HaveJson, RefusesRows, IsWantOfRows};
+ghost use Rattle.orc_cli_rows.specs.FromGroup.{AreLinesFromGroup, EndsFrom};
 ghost use Rattle.orc_cli_rows.specs.Plans.{IsPlanOf};
-ghost use Rattle.orc_cli_rows.specs.Printed.{IsAsked, IsNotAsked, AreLines, ArePrinted, Ends, Stops, RefusesFile, Refuses};
+ghost use Rattle.orc_cli_rows.specs.Printed.{IsAsked, IsNotAsked, AreLinesOfFile, ArePrinted, PrintingEnds, PrintingStops, RefusesFile, RefusesPlace};
 
 use crate::plan::{Plan, plan_of};
 use crate::rows::{print_rows, print_stripe};
 use crate::start::{Start, start_of};
 use orc_cli_output::CliFault;
-use orc_file::{FileFault, OrcFile, Source};
+use orc_file_reader::OrcFile;
+use orc_io::Source;
 use orc_json::RowPrinter;
-use orc_types::JsonFault;
+use orc_json_rows::JsonFault;
+use orc_tail::FileFault;
 use std::alloc::Global;
 use std::io::Write;
 
@@ -51,14 +53,14 @@ fn print_from<S: Source, W: Write>(
     requires planned { IsPlanOf file.old.tail.schema plan }
     requires uncapped { file.old.cap ≡ no_cap }
     ensures written { OnOk result (IfSome (S.told file.old.source) (λ all. (lines : List ℕ)
-        × AreFrom all file.old.tail start.stripe start.group lines
+        × AreLinesFromGroup all file.old.tail start.stripe start.group lines
         × Appends (W.contents out.old) (W.contents out.new) lines)) }
 
     ensures refused { IfErr result (λ fault. IfSome (S.told file.old.source) (λ all.
         EndsFrom all file.old.tail start.stripe start.group (W.contents out.old) (W.contents out.new) fault)) }
     ensures source { LeavesSource S.told S.size S.failures (File SourceFailed) IsWantOfMemory
         file.old.source file.new.source result }
-    ensures layer { IfErr result IsOfRows }
+    ensures layer { IfErr result RefusesRows }
 {
     let number = start.stripe as usize;
     if number >= file.tail().stripes.as_slice().len() {
@@ -88,14 +90,14 @@ fn print_lines<S: Source, W: Write>(
     requires planned { IsPlanOf file.old.tail.schema plan }
     requires uncapped { file.old.cap ≡ no_cap }
     ensures written { OnOk result (IfSome (S.told file.old.source) (λ all. (lines : List ℕ)
-        × AreLines all file.old.tail start lines
+        × AreLinesOfFile all file.old.tail start lines
         × Appends (W.contents out.old) (W.contents out.new) lines)) }
 
     ensures refused { IfErr result (λ fault. IfSome (S.told file.old.source) (λ all.
-        Ends all file.old.tail start (W.contents out.old) (W.contents out.new) fault)) }
+        PrintingEnds all file.old.tail start (W.contents out.old) (W.contents out.new) fault)) }
     ensures source { LeavesSource S.told S.size S.failures (File SourceFailed) IsWantOfMemory
         file.old.source file.new.source result }
-    ensures layer { IfErr result IsOfRows }
+    ensures layer { IfErr result RefusesRows }
 {
     match start {
         None => print_rows(alloc, file, plan, 0, &mut Vec::new(alloc), out),
@@ -112,14 +114,14 @@ fn print_opened<S: Source, W: Write>(
 ) -> Result<(), CliFault>
     requires { file.old.cap ≡ no_cap }
     ensures written { OnOk result (IfSome (S.told file.old.source) (λ all. (lines : List ℕ)
-        × AreLines all file.old.tail start lines
+        × AreLinesOfFile all file.old.tail start lines
         × Appends (W.contents out.old) (W.contents out.new) lines)) }
 
     ensures refused { IfErr result (λ fault. IfSome (S.told file.old.source) (λ all.
-        Stops all file.old.tail start (W.contents out.old) (W.contents out.new) fault)) }
+        PrintingStops all file.old.tail start (W.contents out.old) (W.contents out.new) fault)) }
     ensures source { LeavesSource S.told S.size S.failures (File SourceFailed) IsWantOfMemory
         file.old.source file.new.source result }
-    ensures layer { IfErr result IsOfRows }
+    ensures layer { IfErr result RefusesRows }
 {
     let printer = RowPrinter::new(alloc, file.schema())?;
     let plan = plan_of(&printer, file.schema());
@@ -140,7 +142,7 @@ fn print_file<S: Source, W: Write>(
         (λ bytes. RefusesFile bytes start (W.contents out.old) (W.contents out.new) e.0)) }
     ensures source { HandsBackSource S.told S.size S.failures (File SourceFailed) IsWantOfMemory (λ back. back)
         source result }
-    ensures layer { IfErr result (λ e. IsOfRows e.0) }
+    ensures layer { IfErr result (λ e. RefusesRows e.0) }
 {
     match OrcFile::open(alloc, source) {
         Ok(mut file) => {
@@ -210,7 +212,7 @@ pub fn rows_to<S: Source, W: Write>(
     // of all stripes before the one that failed, from the named group on if there is one, and none if no stripe
     // was reached. After `WriteFailed` it has also got a proper prefix of the lines of the stripe that failed.
     ensures refused { IfErr result (λ e. IfSome (S.told source)
-        (λ bytes. Refuses bytes from.entry (W.contents out.old) (W.contents out.new) e.0)) }
+        (λ bytes. RefusesPlace bytes from.entry (W.contents out.old) (W.contents out.new) e.0)) }
     // If `from` is a text that names no stripe and group, then the error is `Syntax`, the source's count of
     // failures is unchanged, and so are the output's bytes if they are known.
     ensures unread { ((start : Option Start) → IsAsked from.entry start → ⊥)

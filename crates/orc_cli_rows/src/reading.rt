@@ -2,12 +2,13 @@
 ghost use Rattle.std.specs.Prelude.{◌≡◌, ◌≢◌, List, IfOk, IfErr};
 ghost use Rattle.orc_values.specs.Cells.{Cell};
 ghost use Rattle.orc_values.specs.Views.{views};
-ghost use Rattle.orc_column_reader.specs.declared.fault.StripeFault.TheVariants.{OutOfMemory};
-ghost use Rattle.orc_stripe.specs.Cursors.{row_type, StandsFor};
+ghost use Rattle.orc_directory.specs.declared.fault.StripeFault.TheVariants.{OutOfMemory};
+ghost use Rattle.orc_stripe_reader.specs.Cursors.{row_type, StandsFor};
 ghost use Rattle.orc_cli_rows.specs.FromGroup.{AreRowsFrom, StopsFrom};
 ghost use Rattle.orc_cli_rows.specs.OneStripe.{IsOpened, AreRowsOf, HasNoRows};
 
-use orc_stripe::{RowCursor, StripeFault, StripeView};
+use orc_directory::StripeFault;
+use orc_stripe_reader::{RowCursor, StripeView};
 use orc_values::Row;
 use std::alloc::Global;
 

@@ -3,11 +3,10 @@ ghost use Rattle.std.specs.Prelude.{◌≡◌, ◌<◌, ◌≤◌, ℕ, List, le
 ghost use Rattle.std.specs.Io.KnownBytes.{Appends};
 ghost use Rattle.orc_io.specs.Leaves.{LeavesSource};
 ghost use Rattle.orc_tail.specs.Caps.{no_cap};
-ghost use Rattle.orc_file.specs.FileRows.{stripe_bytes};
-ghost use Rattle.orc_tail.specs.Stripes.{stripe_at};
+ghost use Rattle.orc_tail.specs.Stripes.{stripe_at, stripe_bytes};
 ghost use Rattle.orc_tail.specs.declared.fault.FileFault.TheVariants.{SourceFailed};
 ghost use Rattle.orc_cli_output.specs.Output.{IsWantOfMemory};
-ghost use Rattle.orc_cli_rows.specs.Rows.{AreOfStripes, EndsIn, IsOfRows};
+ghost use Rattle.orc_cli_rows.specs.Rows.{AreLinesOfStripes, EndsIn, RefusesRows};
 ghost use Rattle.orc_cli_rows.specs.OneStripe.{AreLinesAt, EndsAtStripe};
 ghost use Rattle.orc_cli_rows.specs.Plans.{IsPlanOf};
 ghost use Rattle.orc_cli_output.specs.declared.fault.CliFault.TheVariants.{File};
@@ -15,7 +14,8 @@ ghost use Rattle.orc_cli_output.specs.declared.fault.CliFault.TheVariants.{File}
 use crate::one_stripe::print_view;
 use crate::plan::Plan;
 use orc_cli_output::CliFault;
-use orc_file::{OrcFile, Source, view_stripe};
+use orc_file_reader::{OrcFile, view_stripe};
+use orc_io::Source;
 use std::alloc::Global;
 use std::io::Write;
 
@@ -42,7 +42,7 @@ pub(crate) fn print_stripe<S: Source, W: Write>(
         EndsAtStripe all file.old.tail number from (W.contents out.old) (W.contents out.new) fault)) }
     ensures source { LeavesSource S.told S.size S.failures (File SourceFailed) IsWantOfMemory
         file.old.source file.new.source result }
-    ensures layer { IfErr result IsOfRows }
+    ensures layer { IfErr result RefusesRows }
 {
     file.load(number, bytes)?;
     let view = view_stripe(alloc, file.tail(), number, bytes)?;
@@ -62,14 +62,14 @@ pub(crate) fn print_rows<S: Source, W: Write>(
     requires planned { IsPlanOf file.old.tail.schema plan }
     requires uncapped { file.old.cap ≡ no_cap }
     ensures written { OnOk result (IfSome (S.told file.old.source) (λ all. (lines : List ℕ)
-        × AreOfStripes file.old.tail.schema all (drop first file.old.tail.stripes) lines
+        × AreLinesOfStripes file.old.tail.schema all (drop first file.old.tail.stripes) lines
         × Appends (W.contents out.old) (W.contents out.new) lines)) }
 
     ensures refused { IfErr result (λ fault. IfSome (S.told file.old.source) (λ all.
         EndsIn all file.old.tail first (W.contents out.old) (W.contents out.new) fault)) }
     ensures source { LeavesSource S.told S.size S.failures (File SourceFailed) IsWantOfMemory
         file.old.source file.new.source result }
-    ensures layer { IfErr result IsOfRows }
+    ensures layer { IfErr result RefusesRows }
 {
     for number in first..file.tail().stripes.as_slice().len() {
         print_stripe(alloc, file, plan, number, None, bytes, out)?;

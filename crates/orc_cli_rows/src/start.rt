@@ -1,6 +1,6 @@
 //! Where reading starts in a file.
 ghost use Rattle.std.specs.Prelude.{ℕ, IfSome, IsSome};
-ghost use Rattle.orc_cli_rows.specs.FromGroup.{IsStart};
+ghost use Rattle.orc_cli_rows.specs.FromGroup.{IsStartText};
 
 use orc_cli_output::number_of;
 
@@ -13,8 +13,8 @@ pub(crate) struct Start {
 
 /// The stripe and the group that a text names: their numbers, with a colon between them.
 pub(crate) fn start_of(text: &str) -> Option<Start>
-    ensures found { IfSome result (λ start. IsStart text.now start.stripe start.group) }
-    ensures only { (stripe group : ℕ) → IsStart text.now stripe group → IsSome result }
+    ensures found { IfSome result (λ start. IsStartText text.now start.stripe start.group) }
+    ensures only { (stripe group : ℕ) → IsStartText text.now stripe group → IsSome result }
 {
     let (stripe, group) = text.split_once(':')?;
     Some(Start {

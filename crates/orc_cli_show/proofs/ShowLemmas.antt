@@ -1,11 +1,10 @@
 -- What a file's description is made of, and why a file isn't shown.
-use Rattle.std.proofs.Common.{◌≡◌, List, ℕ, String, Global, string_bytes, rules, Option, Some, None, ◌⊎◌, inl, inr, refl, ap, subst}
+use Rattle.std.proofs.Common.{◌≡◌, List, ℕ, String, Global, string_bytes, rules, Option, Some, None, ◌⊎◌, inl, inr, ap, subst}
 use Rattle.std.specs.Option.{IfSome}
-use Rattle.std.specs.Io.KnownBytes.{Keeps}
 use Rattle.serde_json.specs.Data.{string}
 use Rattle.serde_json.specs.View.{view}
 use Rattle.serde_json.specs.declared.value.Value.{String as JsonString, the_lemmas}
-use Rattle.orc_tail.specs.Tails.{IsTail, OpenFault, ReadFault}
+use Rattle.orc_tail.specs.Tails.{IsTail, TailOpenFault, ReadFault}
 use Rattle.orc_tail.specs.declared.tail.Tail.{Tail}
 use Rattle.orc_tail.specs.declared.fault.FileFault.{FileFault}
 use Rattle.orc_tail.specs.declared.fault.FileFault.TheVariants.{WriteFailed, SourceFailed, OutOfMemory}
@@ -14,6 +13,7 @@ use Rattle.orc_cli_output.specs.Output.{IsOutsideFile, IsWantOfMemory, write_fai
 use Rattle.orc_cli_output.specs.declared.fault.CliFault.{CliFault}
 use Rattle.orc_cli_output.specs.declared.fault.CliFault.TheVariants.{File}
 use Rattle.orc_cli_show.specs.Show.{IsWantOfShow}
+use Rattle.orc_cli_output.proofs.OutputLemmas.{same_file}
 
 pub view-String : (s : String Global) → view (JsonString s) ≡ string (string_bytes s)
 view-String s = search (rules, the_lemmas)
@@ -32,15 +32,12 @@ outside_open (Some bytes) why h = λ tail is. elim (h tail is) [
   | inr source ↦ inr (inl (ap File source))
 ]
 
-same_file : (why other : FileFault) → File why ≡ File other → why ≡ other
-same_file why other e = cc
-
 -- opening writes nothing
-pub no_output : (told : Option (List ℕ)) (why : FileFault) (P : List ℕ → Type 0) → ReadFault told why (λ bytes. OpenFault bytes why) → File why ≡ write_failed → IfSome told P
+pub no_output : (told : Option (List ℕ)) (why : FileFault) (P : List ℕ → Type 0) → ReadFault told why (λ bytes. TailOpenFault bytes why) → File why ≡ write_failed → IfSome told P
 no_output None why P h failed = tt
 no_output (Some bytes) why P (inl memory) failed = cc
 no_output (Some bytes) why P (inr (inl source)) failed = cc
-no_output (Some bytes) why P (inr (inr bad)) failed = absurd (never_output bytes (subst (OpenFault bytes) (same_file why WriteFailed failed) bad))
+no_output (Some bytes) why P (inr (inr bad)) failed = absurd (never_output bytes (subst (TailOpenFault bytes) (same_file why WriteFailed failed) bad))
 
 -- ---- whose want of memory it is
 
@@ -53,7 +50,3 @@ output_want fault failed (inl e) = inr e
 output_want fault failed (inr (inl e)) = absurd (cc)
 output_want fault failed (inr (inr (inl e))) = absurd (cc)
 output_want fault failed (inr (inr (inr e))) = inl e
-
-pub keeps_itself : (known : Option (List ℕ)) → Keeps known known
-keeps_itself None = tt
-keeps_itself (Some bytes) = refl

@@ -8,13 +8,13 @@ use Rattle.serde_json.specs.Data.{string}
 use Rattle.serde_json.specs.Written.{compact_text}
 use Rattle.orc_wire.specs.declared.stripe_info.StripeInfo.{StripeInfo}
 use Rattle.orc_wire.specs.declared.footer.UserMetadataItem.{UserMetadataItem}
-use Rattle.orc_types.specs.Days.{date_text}
-use Rattle.orc_types.specs.SchemaText.{text}
+use Rattle.orc_json_rows.specs.Days.{date_text}
+use Rattle.orc_trees.specs.SchemaText.{text}
 use Rattle.orc_stats.specs.declared.stat.Stat.{Stat}
 use Rattle.orc_stats.specs.declared.stat.Body.{Body}
 use Rattle.orc_stats.specs.declared.stat.Body.TheVariants.{Plain, Ints, Bools, Dates, Texts, Bins, Children}
 use Rattle.orc_tail.specs.declared.tail.Tail.{Tail}
-use Rattle.orc_types.specs.declared.fault.TypeFault.TheVariants as types
+use Rattle.orc_trees.specs.declared.fault.TypeFault.TheVariants as types
 use Rattle.orc_tail.specs.declared.fault.FileFault.TheVariants as file
 use Rattle.orc_cli_output.specs.declared.fault.CliFault.{CliFault}
 use Rattle.orc_cli_output.specs.declared.fault.CliFault.TheVariants.{Types, File}
@@ -40,25 +40,25 @@ nulls_word (Some true) = codes "yes"
 nulls_word (Some false) = codes "no"
 
 -- a part's name and its value, where it is known
-abbrev pub known : {A : Type 0} → List ℕ → (A → List ℕ) → Option A → List ℕ
-known name of None = []
-known name of (Some x) = 32 ∷ (name ++ 32 ∷ of x)
+abbrev pub known_line : {A : Type 0} → List ℕ → (A → List ℕ) → Option A → List ℕ
+known_line name of None = []
+known_line name of (Some x) = 32 ∷ (name ++ 32 ∷ of x)
 
 -- what a statistic tells by its kind
 abbrev pub body_text : Body → List ℕ
 body_text Plain = []
 body_text (Ints least greatest sum) =
-    known (codes "min") signed_decimal least
-    ++ (known (codes "max") signed_decimal greatest ++ known (codes "sum") signed_decimal sum)
-body_text (Bools trues) = known (codes "true") decimal trues
-body_text (Dates least greatest) = known (codes "min") date_text least ++ known (codes "max") date_text greatest
+    known_line (codes "min") signed_decimal least
+    ++ (known_line (codes "max") signed_decimal greatest ++ known_line (codes "sum") signed_decimal sum)
+body_text (Bools trues) = known_line (codes "true") decimal trues
+body_text (Dates least greatest) = known_line (codes "min") date_text least ++ known_line (codes "max") date_text greatest
 body_text (Texts least greatest sum) =
-    known (codes "min") name_text least
-    ++ (known (codes "max") name_text greatest ++ known (codes "sum") signed_decimal sum)
-body_text (Bins sum) = known (codes "sum") signed_decimal sum
+    known_line (codes "min") name_text least
+    ++ (known_line (codes "max") name_text greatest ++ known_line (codes "sum") signed_decimal sum)
+body_text (Bins sum) = known_line (codes "sum") signed_decimal sum
 body_text (Children least greatest total) =
-    known (codes "min") decimal least
-    ++ (known (codes "max") decimal greatest ++ known (codes "sum") decimal total)
+    known_line (codes "min") decimal least
+    ++ (known_line (codes "max") decimal greatest ++ known_line (codes "sum") decimal total)
 
 -- a pair of the user's: its name, and its value's bytes as digits
 abbrev pub pair_line : UserMetadataItem → List ℕ

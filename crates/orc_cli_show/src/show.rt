@@ -3,7 +3,7 @@ ghost use Rattle.std.specs.Prelude.{◌≡◌, ◌≢◌, ◌++◌, ◌⊎◌, I
 ghost use Rattle.std.specs.List.{flat_map};
 ghost use Rattle.std.specs.Fmt.{signed_decimal};
 ghost use Rattle.std.specs.Io.KnownBytes.{Appends, Keeps};
-ghost use Rattle.orc_types.specs.Days.{date_text as date_day};
+ghost use Rattle.orc_json_rows.specs.Days.{date_text as date_day};
 ghost use Rattle.orc_io.specs.Leaves.{HandsBackSource};
 ghost use Rattle.orc_tail.specs.Tails.{IsTail};
 ghost use Rattle.orc_tail.specs.declared.fault.FileFault.TheVariants.{SourceFailed};
@@ -13,9 +13,11 @@ ghost use Rattle.orc_cli_show.specs.Show as spec;
 ghost use Rattle.orc_cli_output.specs.declared.fault.CliFault.TheVariants.{File};
 
 use orc_cli_output::{CliFault, write_out};
-use orc_file::{OrcFile, Source, Tail};
+use orc_file_reader::OrcFile;
+use orc_io::Source;
+use orc_json_rows::date_text;
 use orc_stats::{Body, Stat};
-use orc_types::date_text;
+use orc_tail::Tail;
 use orc_wire::{Bytes, StripeInfo, UserMetadataItem};
 use serde_json::Value as Json;
 use std::alloc::{AllocError, Global};
@@ -64,7 +66,7 @@ fn number_or_none(alloc: Global, number: Option<u32>) -> Result<String, AllocErr
 
 /// Puts a part's name and number, where it is known.
 fn put_number(lines: &mut String, name: &str, part: Option<i64>) -> Result<(), AllocError>
-    ensures { OnOk result (string_bytes lines.new ≡ string_bytes lines.old ++ spec.known name.now signed_decimal part) }
+    ensures { OnOk result (string_bytes lines.new ≡ string_bytes lines.old ++ spec.known_line name.now signed_decimal part) }
 {
     match part {
         Some(number) => write!(lines, " {name} {number}"),
@@ -74,7 +76,7 @@ fn put_number(lines: &mut String, name: &str, part: Option<i64>) -> Result<(), A
 
 /// Puts a part's name and how many it counts, where it is known.
 fn put_count(lines: &mut String, name: &str, part: Option<u64>) -> Result<(), AllocError>
-    ensures { OnOk result (string_bytes lines.new ≡ string_bytes lines.old ++ spec.known name.now decimal part) }
+    ensures { OnOk result (string_bytes lines.new ≡ string_bytes lines.old ++ spec.known_line name.now decimal part) }
 {
     match part {
         Some(count) => write!(lines, " {name} {count}"),
@@ -89,7 +91,7 @@ fn put_date(
     name: &str,
     part: Option<i32>,
 ) -> Result<(), AllocError>
-    ensures { OnOk result (string_bytes lines.new ≡ string_bytes lines.old ++ spec.known name.now date_day part) }
+    ensures { OnOk result (string_bytes lines.new ≡ string_bytes lines.old ++ spec.known_line name.now date_day part) }
 {
     match part {
         Some(day) => write!(lines, " {name} {}", date_text(alloc, day)?),
@@ -105,7 +107,7 @@ fn put_text(
     part: &Option<Bytes>,
 ) -> Result<(), AllocError>
     ensures { OnOk result
-        (string_bytes lines.new ≡ string_bytes lines.old ++ spec.known name.now spec.name_text part.now) }
+        (string_bytes lines.new ≡ string_bytes lines.old ++ spec.known_line name.now spec.name_text part.now) }
 {
     match part {
         Some(bytes) => write!(lines, " {name} {}", name_of(alloc, bytes.as_slice())?),
@@ -115,7 +117,7 @@ fn put_text(
 
 /// Puts how many are true, where that is known.
 fn put_trues(lines: &mut String, trues: Option<u64>) -> Result<(), AllocError>
-    ensures { OnOk result (string_bytes lines.new ≡ string_bytes lines.old ++ spec.known (codes "true") decimal trues) }
+    ensures { OnOk result (string_bytes lines.new ≡ string_bytes lines.old ++ spec.known_line (codes "true") decimal trues) }
 {
     match trues {
         Some(trues) => write!(lines, " true {trues}"),

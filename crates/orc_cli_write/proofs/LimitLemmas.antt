@@ -4,27 +4,18 @@ use Rattle.std.proofs.Common.{refl, ap, ◌∙◌, subst, append_assoc, length-a
 use Rattle.std.specs.Prelude.{◌&&◌}
 use Rattle.std.proofs.lemmas.Bool.{ltb-false}
 use Rattle.std.proofs.lemmas.List.{length-map}
-use Rattle.orc_stripe_writer.specs.declared.options.Options.{Options}
+use Rattle.orc_row_batch.specs.declared.options.Options.{Options}
 use Rattle.orc_wire.specs.declared.stripe_info.StripeInfo.{StripeInfo}
 use Rattle.orc_values.specs.Shapes.{Shape, width}
 use Rattle.orc_values.specs.Cells.{Cell}
 use Rattle.orc_stats.specs.declared.stat.Stat.{Stat}
 use Rattle.orc_tail.specs.Stripes.{stripes_rows, most_stripes, most_rows}
-use Rattle.orc_file.specs.Counts.{with_row, are_few, PassesLimit}
-use Rattle.orc_file.specs.Writing.{WrittenStripe, AreWrittenStripes, rows_of, infos_of, PassesBytes}
-use Rattle.orc_file.proofs.Spread.{HasPushed}
-use Rattle.orc_file.proofs.WriterLemmas.{stripe_rows}
-use Rattle.orc_file.proofs.CountLemmas.{AreCounts, counts_more, length-with_row}
+use Rattle.orc_file_writer.specs.Counts.{with_row, are_few, PassesLimit}
+use Rattle.orc_file_writer.specs.Writing.{WrittenStripe, rows_of, infos_of, PassesBytes}
+use Rattle.orc_file_writer.proofs.Spread.{HasPushed}
+use Rattle.orc_file_writer.proofs.CountLemmas.{AreCounts, counts_more, length-with_row}
 use Rattle.orc_cli_write.specs.Writes.{HaveManyCells, PassesLimits}
-
-rows_count : (options : Options) (s : Shape) (at : ℕ) (cs : List WrittenStripe) → AreWrittenStripes options s at cs → stripes_rows (infos_of cs) ≡ length (rows_of cs)
-rows_count options s at [] h = refl
-rows_count options s at (c ∷ cs) h =
-    let i = h.0 in
-    let n = stripe_rows s c.info c.bytes c.rows i.read in
-    let l = length-append c.rows (rows_of cs) in
-    let r = rows_count options s (at + length c.bytes) cs h.1 in
-    omega (arith, n, l, r)
+use Rattle.orc_file_writer.proofs.LimitLemmas.{told_rows}
 
 -- some count is above the limit
 record IsManyAt (ns : List ℕ) : Type 0 where
@@ -62,7 +53,7 @@ module _ (options : Options) (s : Shape) (first told : Option (List ℕ)) (writt
         let h = p.0 in
         let l = ap length h.rows_are in
         let m = length-append (rows_of h.stripes_written) kept in
-        let c = rows_count options s 3 h.stripes_written h.are in
+        let c = told_rows options s 3 h.stripes_written h.are in
         let i = ap stripes_rows h.infos_are in
         omega (arith, l, m, c, i, total_is, k_is)
 

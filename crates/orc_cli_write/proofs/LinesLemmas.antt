@@ -7,9 +7,9 @@ use Rattle.std.proofs.lemmas.List.{take_all, take-append-drop, get_or-drop}
 use Rattle.std.proofs.Math.ListN.{drop_of_length-le}
 use Rattle.orc_values.specs.Shapes.{Shape}
 use Rattle.orc_values.specs.Cells.{Cell}
-use Rattle.orc_column_reader.proofs.RunsLemmas.{drop_twice}
-use Rattle.orc_cli_write.specs.Lines.{IsLine, AreLines, LinesSpell, LineSpellsRows, AreRowsOf}
-use Rattle.orc_cli_write.specs.Writes.{EndsAtLine, StopsAt, EndsInLines}
+use Rattle.orc_values.proofs.Lists.{drop_twice}
+use Rattle.orc_cli_write.specs.Lines.{IsLine, AreLines, LinesSpell, LineSpellsRows, AreRowsOfLines}
+use Rattle.orc_cli_write.specs.Writes.{EndsAtLine, StopsAtLine, EndsInLines}
 use Rattle.orc_cli_write.specs.Reads.{TakesLine, BeginWith}
 use Rattle.orc_cli_output.specs.declared.fault.CliFault.{CliFault}
 use Rattle.orc_cli_write.proofs.WriteLemmas.{spell_more, rows_more, rows_last, rows_none, lines_more}
@@ -35,7 +35,7 @@ has_lines (b ∷ bs) = one_more b bs (b == 10) refl (has_lines bs)
 
 -- ---- a line that isn't pushed
 
-stops_last : (s : Shape) (line : List ℕ) → IsLine line → (line ≡ [] → ⊥) → StopsAt s line [] line
+stops_last : (s : Shape) (line : List ℕ) → IsLine line → (line ≡ [] → ⊥) → StopsAtLine s line [] line
 stops_last s line is some = record {
   ended = [];
   last = line;
@@ -47,7 +47,7 @@ stops_last s line is some = record {
   some = some;
 }
 
-stops_ended : (s : Shape) (line rest : List ℕ) → IsLine line → (line ≡ [] → ⊥) → StopsAt s (line ++ 10 ∷ rest) [] line
+stops_ended : (s : Shape) (line rest : List ℕ) → IsLine line → (line ≡ [] → ⊥) → StopsAtLine s (line ++ 10 ∷ rest) [] line
 stops_ended s line rest is some =
     let p = has_lines rest in
     record {
@@ -61,20 +61,20 @@ stops_ended s line rest is some =
       some = some;
     }
 
-stops_before : (s : Shape) (line rest : List ℕ) → IsLine line → (line ≡ [] → ⊥) → (0 < length rest → get_or rest 0 0 ≡ 10) → StopsAt s (line ++ rest) [] line
-stops_before s line [] is some end = subst (λ (t : List ℕ). StopsAt s t [] line) (sym (append-nil line)) (stops_last s line is some)
+stops_before : (s : Shape) (line rest : List ℕ) → IsLine line → (line ≡ [] → ⊥) → (0 < length rest → get_or rest 0 0 ≡ 10) → StopsAtLine s (line ++ rest) [] line
+stops_before s line [] is some end = subst (λ (t : List ℕ). StopsAtLine s t [] line) (sym (append-nil line)) (stops_last s line is some)
 stops_before s line (b ∷ bs) is some end =
     let e : b ≡ 10 = end (omega arith) in
-    subst (λ (t : ℕ). StopsAt s (line ++ t ∷ bs) [] line) (sym e) (stops_ended s line bs is some)
+    subst (λ (t : ℕ). StopsAtLine s (line ++ t ∷ bs) [] line) (sym e) (stops_ended s line bs is some)
 
-pub stops_here : (s : Shape) (rest : List ℕ) (len : ℕ) → IsLine (take len rest) → (take len rest ≡ [] → ⊥) → (len < length rest → get_or rest len 0 ≡ 10) → StopsAt s rest [] (take len rest)
+pub stops_here : (s : Shape) (rest : List ℕ) (len : ℕ) → IsLine (take len rest) → (take len rest ≡ [] → ⊥) → (len < length rest → get_or rest len 0 ≡ 10) → StopsAtLine s rest [] (take len rest)
 stops_here s rest len is some end =
     let l = length-drop len rest in
     let place : len + 0 ≡ len = omega arith in
     let first : get_or (drop len rest) 0 0 ≡ get_or rest len 0 = get_or-drop len rest 0 0 ∙ ap (λ (m : ℕ). get_or rest m 0) place in
-    subst (λ (t : List ℕ). StopsAt s t [] (take len rest)) (take-append-drop len rest) (stops_before s (take len rest) (drop len rest) is some (λ some. first ∙ end (omega (arith, l, some))))
+    subst (λ (t : List ℕ). StopsAtLine s t [] (take len rest)) (take-append-drop len rest) (stops_before s (take len rest) (drop len rest) is some (λ some. first ∙ end (omega (arith, l, some))))
 
-stops_more : (s : Shape) (line rest : List ℕ) (own more : List Cell) (other : List ℕ) → IsLine line → LineSpellsRows s line own → StopsAt s rest more other → StopsAt s (line ++ 10 ∷ rest) (own ++ more) other
+stops_more : (s : Shape) (line rest : List ℕ) (own more : List Cell) (other : List ℕ) → IsLine line → LineSpellsRows s line own → StopsAtLine s rest more other → StopsAtLine s (line ++ 10 ∷ rest) (own ++ more) other
 stops_more s line rest own more other is spells p = record {
   ended = line ∷ p.ended;
   last = p.last;
@@ -139,8 +139,8 @@ begin_here s rest =
 -- ---- what the front of a text leads to: with whatever the rest spells
 
 pub record Leads (s : Shape) (bytes rest : List ℕ) (own : List Cell) : Type 0 where
-  pub rows : (more : List Cell) → AreRowsOf s rest more → AreRowsOf s bytes (own ++ more)
-  pub stops : (more : List Cell) (line : List ℕ) → StopsAt s rest more line → StopsAt s bytes (own ++ more) line
+  pub rows : (more : List Cell) → AreRowsOfLines s rest more → AreRowsOfLines s bytes (own ++ more)
+  pub stops : (more : List Cell) (line : List ℕ) → StopsAtLine s rest more line → StopsAtLine s bytes (own ++ more) line
   pub begins : (more : List Cell) → BeginWith s rest more → BeginWith s bytes (own ++ more)
 
 pub leads_none : (s : Shape) (bytes : List ℕ) → Leads s bytes bytes []
@@ -148,8 +148,8 @@ leads_none s bytes = record { rows = λ more h. h; stops = λ more line h. h; be
 
 pub leads_both : (s : Shape) (a b c : List ℕ) (own more : List Cell) → Leads s a b own → Leads s b c more → Leads s a c (own ++ more)
 leads_both s a b c own more p q = record {
-  rows = λ rest h. subst (λ (t : List Cell). AreRowsOf s a t) (sym (append_assoc own more rest)) (p.rows (more ++ rest) (q.rows rest h));
-  stops = λ rest line h. subst (λ (t : List Cell). StopsAt s a t line) (sym (append_assoc own more rest)) (p.stops (more ++ rest) line (q.stops rest line h));
+  rows = λ rest h. subst (λ (t : List Cell). AreRowsOfLines s a t) (sym (append_assoc own more rest)) (p.rows (more ++ rest) (q.rows rest h));
+  stops = λ rest line h. subst (λ (t : List Cell). StopsAtLine s a t line) (sym (append_assoc own more rest)) (p.stops (more ++ rest) line (q.stops rest line h));
   begins = λ rest h. subst (λ (t : List Cell). BeginWith s a t) (sym (append_assoc own more rest)) (p.begins (more ++ rest) (q.begins rest h));
 }
 
@@ -196,10 +196,10 @@ leads_rest s input at len own past is spells =
 
 -- ---- the end
 
-pub all_led : (s : Shape) (input : List ℕ) (at : ℕ) (own : List Cell) → length input ≤ at → Leads s input (drop at input) own → AreRowsOf s input own
+pub all_led : (s : Shape) (input : List ℕ) (at : ℕ) (own : List Cell) → length input ≤ at → Leads s input (drop at input) own → AreRowsOfLines s input own
 all_led s input at own past h =
     let none : drop at input ≡ [] = drop_of_length-le input past in
-    subst (λ (t : List Cell). AreRowsOf s input t) (append-nil own) (h.rows [] (subst (λ (t : List ℕ). AreRowsOf s t []) (sym none) (rows_none s)))
+    subst (λ (t : List Cell). AreRowsOfLines s input t) (append-nil own) (h.rows [] (subst (λ (t : List ℕ). AreRowsOfLines s t []) (sym none) (rows_none s)))
 
 pub ends_behind : (s : Shape) (input rest : List ℕ) (len : ℕ) (own more : List Cell) (fault : CliFault) → Leads s input rest own → IsLine (take len rest) → (len < length rest → get_or rest len 0 ≡ 10)
     → (take len rest ≡ [] → ⊥) → EndsAtLine s (take len rest) fault more → EndsInLines s input fault (own ++ more)
@@ -207,7 +207,7 @@ ends_behind s input rest len own more fault h is end some ends = record {
   line = take len rest;
   before = own;
   own = more;
-  stops = subst (λ (t : List Cell). StopsAt s input t (take len rest)) (append-nil own) (h.stops [] (take len rest) (stops_here s rest len is some end));
+  stops = subst (λ (t : List Cell). StopsAtLine s input t (take len rest)) (append-nil own) (h.stops [] (take len rest) (stops_here s rest len is some end));
   ends = ends;
   rows_are = refl;
 }
@@ -219,9 +219,9 @@ leads_read s bytes line rest own is (inl e) spells = subst (λ (t : List ℕ). L
 leads_read s bytes line rest own is (inr e) spells =
     subst (λ (t : List ℕ). Leads s bytes t own) (sym e.2) (subst (λ (t : List ℕ). Leads s t [] own) (sym e.0) (leads_last s line own is spells))
 
-stops_read : (s : Shape) (bytes line rest : List ℕ) → IsLine line → (line ≡ [] → ⊥) → TakesLine bytes line rest → StopsAt s bytes [] line
-stops_read s bytes line rest is some (inl e) = subst (λ (t : List ℕ). StopsAt s t [] line) (sym e) (stops_ended s line rest is some)
-stops_read s bytes line rest is some (inr e) = subst (λ (t : List ℕ). StopsAt s t [] line) (sym e.0) (stops_last s line is some)
+stops_read : (s : Shape) (bytes line rest : List ℕ) → IsLine line → (line ≡ [] → ⊥) → TakesLine bytes line rest → StopsAtLine s bytes [] line
+stops_read s bytes line rest is some (inl e) = subst (λ (t : List ℕ). StopsAtLine s t [] line) (sym e) (stops_ended s line rest is some)
+stops_read s bytes line rest is some (inr e) = subst (λ (t : List ℕ). StopsAtLine s t [] line) (sym e.0) (stops_last s line is some)
 
 pub ends_read : (s : Shape) (input bytes line rest : List ℕ) (own more : List Cell) (fault : CliFault) → Leads s input bytes own → IsLine line → (line ≡ [] → ⊥) → TakesLine bytes line rest
     → EndsAtLine s line fault more → EndsInLines s input fault (own ++ more)
@@ -229,13 +229,13 @@ ends_read s input bytes line rest own more fault h is some takes ends = record {
   line = line;
   before = own;
   own = more;
-  stops = subst (λ (t : List Cell). StopsAt s input t line) (append-nil own) (h.stops [] line (stops_read s bytes line rest is some takes));
+  stops = subst (λ (t : List Cell). StopsAtLine s input t line) (append-nil own) (h.stops [] line (stops_read s bytes line rest is some takes));
   ends = ends;
   rows_are = refl;
 }
 
-pub all_read : (s : Shape) (input : List ℕ) (own : List Cell) → Leads s input [] own → AreRowsOf s input own
-all_read s input own h = subst (λ (t : List Cell). AreRowsOf s input t) (append-nil own) (h.rows [] (rows_none s))
+pub all_read : (s : Shape) (input : List ℕ) (own : List Cell) → Leads s input [] own → AreRowsOfLines s input own
+all_read s input own h = subst (λ (t : List Cell). AreRowsOfLines s input t) (append-nil own) (h.rows [] (rows_none s))
 
 pub begun_read : (s : Shape) (input rest : List ℕ) (own : List Cell) → Leads s input rest own → BeginWith s input own
 begun_read s input rest own h = subst (λ (t : List Cell). BeginWith s input t) (append-nil own) (h.begins [] (begin_here s rest))

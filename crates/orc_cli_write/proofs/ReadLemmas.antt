@@ -4,16 +4,16 @@ use Rattle.std.proofs.Common.{refl, ap, ◌∙◌, subst, inl, inr}
 use Rattle.std.specs.Option.{IfSome}
 use Rattle.orc_values.specs.Shapes.{Shape}
 use Rattle.orc_values.specs.Cells.{Cell}
-use Rattle.orc_cli_write.specs.Lines.{LineSpellsRows, AreRowsOf}
+use Rattle.orc_cli_write.specs.Lines.{LineSpellsRows, AreRowsOfLines}
 use Rattle.orc_tail.specs.declared.fault.FileFault.TheVariants as file
 use Rattle.orc_cli_write.specs.Writes.{IsOfWriter, IsWantOfLines, EndsAtLine, EndsInLines}
-use Rattle.orc_types.specs.SchemaText.{HasText}
+use Rattle.orc_types.specs.Schemas.{HasText}
 use Rattle.orc_cli_write.specs.Reads.{HasRead, line_failures, refusal_of, BeginWith, EndsReading}
 use Rattle.orc_cli_write.specs.declared.line_fault.LineFault.{LineFault}
 use Rattle.orc_cli_write.specs.declared.line_fault.LineFault.TheVariants.{Failed, OutOfMemory}
 use Rattle.orc_cli_write.proofs.LinesLemmas.{Leads, leads_none, leads_both, leads_read, ends_read, all_read, begun_read}
 use Rattle.orc_cli_write.proofs.WriteLaws.{only_outside}
-use Rattle.orc_cli_output.specs.Output.{IsOutside, IsWantOfMemory, IsOfSource}
+use Rattle.orc_cli_output.specs.Output.{IsOutputOrMemory, IsWantOfMemory, IsOfSource}
 use Rattle.orc_cli_output.specs.declared.fault.CliFault.{CliFault}
 use Rattle.orc_cli_output.specs.declared.fault.CliFault.TheVariants.{File}
 
@@ -40,7 +40,7 @@ led_line s (Some bytes) left new line own more p r spells =
     let h = read_of true left new line p.0 p.1 r in
     (h.0, h.1, leads_both s bytes p.0 h.0 own more p.2 (leads_read s p.0 line h.0 more h.2 h.3 spells))
 
-pub led_all : (s : Shape) (told left new : Option (List ℕ)) (line : List ℕ) (own : List Cell) → HasLed s told left own → ReadOf false left line new → IfSome told (λ bytes. AreRowsOf s bytes own)
+pub led_all : (s : Shape) (told left new : Option (List ℕ)) (line : List ℕ) (own : List Cell) → HasLed s told left own → ReadOf false left line new → IfSome told (λ bytes. AreRowsOfLines s bytes own)
 led_all s None left new line own p r = tt
 led_all s (Some bytes) left new line own p r =
     let none : p.0 ≡ [] = read_of false left new line p.0 p.1 r in
@@ -104,7 +104,7 @@ of_source fault (inr want) = inl (inr (inr want))
 
 pub only_read : (told : Option (List ℕ)) (text : List ℕ) (t : Shape) (fault : CliFault) (own : List Cell) → HasText t text
     → IfSome told (λ bytes. EndsInLines t bytes fault own ⊎ (IsOfSource fault × BeginWith t bytes own))
-    → IfSome told (λ bytes. (s : Shape) (rows : List Cell) → HasText s text → AreRowsOf s bytes rows → IsOfWriter fault ⊎ (fault ≡ File file.SourceFailed))
+    → IfSome told (λ bytes. (s : Shape) (rows : List Cell) → HasText s text → AreRowsOfLines s bytes rows → IsOfWriter fault ⊎ (fault ≡ File file.SourceFailed))
 only_read None text t fault own k e = tt
 only_read (Some bytes) text t fault own k (inl e) = λ s rows h r. inl (only_outside text bytes s t fault own rows h k r e)
 only_read (Some bytes) text t fault own k (inr e) = λ s rows h r. of_source fault e.0
@@ -115,11 +115,11 @@ ends_reading None s fault own e = tt
 ends_reading (Some bytes) s fault own (inl e) = inl (inl e)
 ends_reading (Some bytes) s fault own (inr e) = inr e
 
-pub ends_behind_all : (told : Option (List ℕ)) (s : Shape) (fault : CliFault) (own : List Cell) → IfSome told (λ bytes. AreRowsOf s bytes own) → IsOfWriter fault
+pub ends_behind_all : (told : Option (List ℕ)) (s : Shape) (fault : CliFault) (own : List Cell) → IfSome told (λ bytes. AreRowsOfLines s bytes own) → IsOfWriter fault
     → IfSome told (λ bytes. EndsReading s bytes fault own)
 ends_behind_all None s fault own h w = tt
 ends_behind_all (Some bytes) s fault own h w = inl (inr (inr (h, w)))
 
-pub ends_before_all : (told : Option (List ℕ)) (s : Shape) (fault : CliFault) → IsOutside fault → IfSome told (λ bytes. EndsReading s bytes fault [])
+pub ends_before_all : (told : Option (List ℕ)) (s : Shape) (fault : CliFault) → IsOutputOrMemory fault → IfSome told (λ bytes. EndsReading s bytes fault [])
 ends_before_all None s fault out = tt
 ends_before_all (Some bytes) s fault out = inl (inr (inl (refl, out)))

@@ -5,13 +5,13 @@ use Rattle.serde_json.specs.Data.{Data}
 use Rattle.serde_json.specs.Read.{read as read_text}
 use Rattle.orc_values.specs.Shapes.{Shape}
 use Rattle.orc_values.specs.Cells.{Cell}
-use Rattle.orc_types.specs.SchemaText.{HasText}
-use Rattle.orc_types.specs.JsonFaults.{FaultAt, Somewhere}
-use Rattle.orc_types.specs.declared.json_fault.JsonFault.{JsonFault}
-use Rattle.orc_types.proofs.JsonLaws.{only_memory}
-use Rattle.orc_types.proofs.OneText.{one_whole}
-use Rattle.orc_json_reader.specs.RowTexts.{ValueFault}
-use Rattle.orc_cli_write.specs.Lines.{IsLine, LineSpells, LinesSpell, AreRowsOf}
+use Rattle.orc_types.specs.Schemas.{HasText}
+use Rattle.orc_json_rows.specs.JsonFaults.{FaultAt, Somewhere}
+use Rattle.orc_json_rows.specs.declared.json_fault.JsonFault.{JsonFault}
+use Rattle.orc_json_rows.proofs.JsonLaws.{only_memory}
+use Rattle.orc_trees.proofs.OneText.{one_whole}
+use Rattle.orc_json.specs.RowTexts.{ValueFault}
+use Rattle.orc_cli_write.specs.Lines.{IsLine, LineSpells, LinesSpell, AreRowsOfLines}
 use Rattle.orc_cli_write.specs.Writes.{LineSpellsNone, IsOfWriter, EndsAtLine, EndsInLines}
 use Rattle.orc_cli_output.specs.declared.fault.CliFault.{CliFault}
 use Rattle.orc_cli_output.specs.declared.fault.CliFault.TheVariants.{Json}
@@ -87,7 +87,7 @@ line_outside s line fault own row h (inl bad) = subst (λ (f : CliFault). IsOfWr
 line_outside s line fault own row h (inr (inl memory)) = inr (inr memory.1)
 line_outside s line fault own row h (inr (inr writer)) = writer.1
 
-lines_outside : (s : Shape) (bytes : List ℕ) (fault : CliFault) (own rows : List Cell) → AreRowsOf s bytes rows → EndsInLines s bytes fault own → IsOfWriter fault
+lines_outside : (s : Shape) (bytes : List ℕ) (fault : CliFault) (own rows : List Cell) → AreRowsOfLines s bytes rows → EndsInLines s bytes fault own → IsOfWriter fault
 lines_outside s bytes fault own rows h e =
     let p = e.stops in
     let same = same_lines h.ended p.ended h.last p.last h.lines.plain p.lines.plain h.lines.plain_last p.lines.plain_last (sym h.lines.joined ∙ p.lines.joined) in
@@ -95,7 +95,7 @@ lines_outside s bytes fault own rows h e =
     line_outside s e.line fault e.own one.row one.spells e.ends
 
 -- a text tells one schema
-pub only_outside : (text bytes : List ℕ) (s t : Shape) (fault : CliFault) (own rows : List Cell) → HasText s text → HasText t text → AreRowsOf s bytes rows → EndsInLines t bytes fault own → IsOfWriter fault
+pub only_outside : (text bytes : List ℕ) (s t : Shape) (fault : CliFault) (own rows : List Cell) → HasText s text → HasText t text → AreRowsOfLines s bytes rows → EndsInLines t bytes fault own → IsOfWriter fault
 only_outside text bytes s t fault own rows h k r e =
     let same : s ≡ t = one_whole s t h.plain k.plain (sym h.spelled ∙ k.spelled) in
-    lines_outside t bytes fault own rows (subst (λ (x : Shape). AreRowsOf x bytes rows) same r) e
+    lines_outside t bytes fault own rows (subst (λ (x : Shape). AreRowsOfLines x bytes rows) same r) e

@@ -2,24 +2,24 @@
 use Rattle.std.proofs.Common.{◌≡◌, ℕ, Bool, true, false, List, [], ◌∷◌, ◌++◌, length, refl, sym, ap, ◌∙◌, subst, append_assoc, append-nil, arith, ◌⊎◌, inl, inr, Option}
 use Rattle.std.specs.Prelude.{◌==◌, ◌≢◌}
 use Rattle.std.specs.List.{flat_map}
-use Rattle.orc_stripe_writer.specs.declared.options.Options.{Options}
+use Rattle.orc_row_batch.specs.declared.options.Options.{Options}
 use Rattle.orc_wire.specs.declared.stripe_info.StripeInfo.{StripeInfo}
 use Rattle.orc_values.specs.Shapes.{Shape}
 use Rattle.orc_values.specs.Cells.{Cell}
-use Rattle.orc_types.specs.declared.fault.TypeFault.{TypeFault}
-use Rattle.orc_types.specs.declared.fault.TypeFault.TheVariants as types
-use Rattle.orc_types.specs.declared.json_fault.JsonFault.{JsonFault}
-use Rattle.orc_types.specs.declared.json_fault.JsonFault.TheVariants as json
+use Rattle.orc_trees.specs.declared.fault.TypeFault.{TypeFault}
+use Rattle.orc_trees.specs.declared.fault.TypeFault.TheVariants as types
+use Rattle.orc_json_rows.specs.declared.json_fault.JsonFault.{JsonFault}
+use Rattle.orc_json_rows.specs.declared.json_fault.JsonFault.TheVariants as json
 use Rattle.orc_stats.specs.declared.stat.Stat.{Stat}
-use Rattle.orc_file.proofs.Spread.{HasPushed}
-use Rattle.orc_file.specs.Writing.{Progress}
+use Rattle.orc_file_writer.proofs.Spread.{HasPushed}
+use Rattle.orc_file_writer.specs.Writing.{Progress}
 use Rattle.orc_tail.specs.declared.fault.FileFault.{FileFault}
 use Rattle.orc_tail.specs.declared.fault.FileFault.TheVariants as file
 use Rattle.orc_cli_output.specs.declared.fault.CliFault.{CliFault}
 use Rattle.orc_cli_output.specs.declared.fault.CliFault.TheVariants.{Types, Json, File}
-use Rattle.orc_cli_output.specs.Output.{IsWantOfMemory, IsOutside}
+use Rattle.orc_cli_output.specs.Output.{IsWantOfMemory, IsOutputOrMemory}
 use Rattle.orc_cli_write.specs.Writes.{LineSpellsNone, IsOfLine, IsWantOfLines, IsOfWriter, EndsAtLine, StandsOpen, LeavesAtLine}
-use Rattle.orc_cli_write.specs.Lines.{IsLine, AreLines, LineSpells, LinesSpell, LineSpellsRows, AreRowsOf}
+use Rattle.orc_cli_write.specs.Lines.{IsLine, AreLines, LineSpells, LinesSpell, LineSpellsRows, AreRowsOfLines}
 
 pub spell_more : (s : Shape) (line : List ℕ) (own more : List Cell) (lines : List (List ℕ)) → LinesSpell s (line ∷ []) own → LinesSpell s lines more → LinesSpell s (line ∷ lines) (own ++ more)
 spell_more s [] own more lines p q = subst (λ (t : List Cell). LinesSpell s lines (t ++ more)) (sym p) q
@@ -36,7 +36,7 @@ lines_more line rest ended last is p =
     }
 
 -- a line with its end, and the rows of what follows
-pub rows_more : (s : Shape) (line rest : List ℕ) (own more : List Cell) → IsLine line → LineSpellsRows s line own → AreRowsOf s rest more → AreRowsOf s (line ++ 10 ∷ rest) (own ++ more)
+pub rows_more : (s : Shape) (line rest : List ℕ) (own more : List Cell) → IsLine line → LineSpellsRows s line own → AreRowsOfLines s rest more → AreRowsOfLines s (line ++ 10 ∷ rest) (own ++ more)
 rows_more s line rest own more is spells p = record {
   ended = line ∷ p.ended;
   last = p.last;
@@ -51,7 +51,7 @@ no_rows s ([] ∷ ls) last more e p = absurd (cc)
 no_rows s ((x ∷ xs) ∷ ls) last more e p = absurd (cc)
 
 -- a last line without an end
-pub rows_last : (s : Shape) (line : List ℕ) (own more : List Cell) → IsLine line → LineSpellsRows s line own → AreRowsOf s [] more → AreRowsOf s line (own ++ more)
+pub rows_last : (s : Shape) (line : List ℕ) (own more : List Cell) → IsLine line → LineSpellsRows s line own → AreRowsOfLines s [] more → AreRowsOfLines s line (own ++ more)
 rows_last s line own more is spells p =
     let none = no_rows s p.ended p.last more p.lines.joined p.spell in
     record {
@@ -61,7 +61,7 @@ rows_last s line own more is spells p =
       spell = subst (λ (t : List Cell). LinesSpell s (line ∷ []) t) (sym (ap (λ (t : List Cell). own ++ t) none ∙ append-nil own)) spells;
     }
 
-pub rows_none : (s : Shape) → AreRowsOf s [] []
+pub rows_none : (s : Shape) → AreRowsOfLines s [] []
 rows_none s = record { ended = []; last = []; lines = record { plain = tt; plain_last = tt; joined = refl }; spell = refl }
 
 -- ---- one line
@@ -114,7 +114,7 @@ of_finish why a (inr (inl e)) = inl (ap File e)
 of_finish why a (inr (inr (inl e))) = inr (inl (ap File e))
 of_finish why a (inr (inr (inr e))) = inr (inr (inl (ap File e)))
 
-pub of_begin : (why : FileFault) → (why ≡ file.WriteFailed) ⊎ (why ≡ file.OutOfMemory) → IsOutside (File why)
+pub of_begin : (why : FileFault) → (why ≡ file.WriteFailed) ⊎ (why ≡ file.OutOfMemory) → IsOutputOrMemory (File why)
 of_begin why (inl e) = inl (ap File e)
 of_begin why (inr e) = inr (inl (ap File e))
 

@@ -3,7 +3,7 @@ use Rattle.std.specs.Prelude.{◌≡◌, ◌≢◌, ℕ, List, [], ◌∷◌, �
 use Rattle.std.specs.List.{flat_map, AllByRecursion}
 use Rattle.orc_values.specs.Shapes.{Shape}
 use Rattle.orc_values.specs.Cells.{Cell}
-use Rattle.orc_json_reader.specs.RowTexts.{TextSpells}
+use Rattle.orc_json.specs.RowTexts.{TextSpells}
 
 -- no byte ends the line
 abbrev pub IsLine : List ℕ → Type 0
@@ -32,7 +32,7 @@ abbrev pub LineSpellsRows : Shape → List ℕ → List Cell → Type 0
 LineSpellsRows s line rows = LinesSpell s (line ∷ []) rows
 
 -- the rows are those of the bytes' lines
-pub record AreRowsOf (s : Shape) (bytes : List ℕ) (rows : List Cell) : Type 0 where
+pub record AreRowsOfLines (s : Shape) (bytes : List ℕ) (rows : List Cell) : Type 0 where
   pub ended : List (List ℕ)
   pub last : List ℕ
   pub lines : AreLines bytes ended last

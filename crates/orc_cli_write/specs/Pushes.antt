@@ -2,7 +2,7 @@
 use Rattle.std.specs.Prelude.{◌≡◌, ℕ, false, Result, OnOk}
 use Rattle.orc_io.specs.Leaves.{LeavesSink}
 use Rattle.orc_io.specs.declared.sink.Sink.{Ghosts}
-use Rattle.orc_file.specs.declared.writer.Writer.{Writer}
+use Rattle.orc_file_writer.specs.declared.writer.Writer.{Writer}
 use Rattle.orc_cli_output.specs.Output as output
 use Rattle.orc_cli_output.specs.Output.{IsWantOfMemory}
 use Rattle.orc_cli_output.specs.declared.fault.CliFault.{CliFault}

@@ -2,13 +2,13 @@
 -- failures count, and why not all of their rows are written.
 use Rattle.std.specs.Prelude.{◌≡◌, ◌≢◌, ℕ, ◌+◌, List, [], ◌∷◌, ◌++◌, ◌⊎◌, Option, Some, Result, Ok, Err, Bool, true, false}
 use Rattle.std.specs.Option.{IfSome}
-use Rattle.orc_stripe_writer.specs.declared.options.Options.{Options}
+use Rattle.orc_row_batch.specs.declared.options.Options.{Options}
 use Rattle.orc_values.specs.Shapes.{Shape}
 use Rattle.orc_values.specs.Cells.{Cell}
-use Rattle.orc_types.specs.SchemaText.{HasText}
-use Rattle.orc_types.specs.TextFaults.{TextFault}
-use Rattle.orc_types.specs.declared.fault.TypeFault.{TypeFault}
-use Rattle.orc_file.specs.Writing.{Progress, HasPushed, IsCutOff}
+use Rattle.orc_types.specs.Schemas.{HasText}
+use Rattle.orc_trees.specs.TextFaults.{TextFault}
+use Rattle.orc_trees.specs.declared.fault.TypeFault.{TypeFault}
+use Rattle.orc_file_writer.specs.Writing.{Progress, HasPushed, IsCutOff}
 use Rattle.orc_cli_write.specs.Lines.{IsLine, AreLines, LinesSpell}
 use Rattle.orc_cli_write.specs.Writes.{EndsUnder, LimitStands, OpenAtLine, StandsOpen}
 use Rattle.orc_cli_output.specs.Output.{IsOfSource}

@@ -1,24 +1,24 @@
 -- Why no file is written of lines, and what stands of one then.
 use Rattle.std.specs.Prelude.{◌≡◌, ◌≢◌, ◌<◌, ◌≤◌, ◌⊎◌, ℕ, List, [], ◌∷◌, ◌++◌, length, Option}
-use Rattle.orc_stripe_writer.specs.declared.options.Options.{Options}
+use Rattle.orc_row_batch.specs.declared.options.Options.{Options}
 use Rattle.orc_values.specs.Shapes.{Shape, width}
 use Rattle.orc_values.specs.Cells.{Cell}
 use Rattle.orc_values.specs.Columns.{cells}
-use Rattle.orc_types.specs.SchemaText.{HasText}
-use Rattle.orc_types.specs.TextFaults.{TextFault}
-use Rattle.orc_types.specs.declared.fault.TypeFault.{TypeFault}
-use Rattle.orc_types.specs.declared.fault.TypeFault.TheVariants as types
-use Rattle.orc_types.specs.declared.json_fault.JsonFault.{JsonFault}
-use Rattle.orc_types.specs.declared.json_fault.JsonFault.TheVariants as json
-use Rattle.orc_json_reader.specs.RowTexts.{RowTextFault}
-use Rattle.orc_column_reader.specs.Stripe.{cell_limit}
+use Rattle.orc_types.specs.Schemas.{HasText}
+use Rattle.orc_trees.specs.TextFaults.{TextFault}
+use Rattle.orc_trees.specs.declared.fault.TypeFault.{TypeFault}
+use Rattle.orc_trees.specs.declared.fault.TypeFault.TheVariants as types
+use Rattle.orc_json_rows.specs.declared.json_fault.JsonFault.{JsonFault}
+use Rattle.orc_json_rows.specs.declared.json_fault.JsonFault.TheVariants as json
+use Rattle.orc_json.specs.RowTexts.{RowTextFault}
+use Rattle.orc_values.specs.Limits.{cell_limit}
 use Rattle.orc_io.specs.Devices.{appended}
 use Rattle.orc_tail.specs.Layout.{magic}
 use Rattle.orc_tail.specs.Stripes.{most_stripes, most_rows}
-use Rattle.orc_file.specs.Writing.{WrittenStripe, AreWrittenStripes, AreFull, bytes_of, rows_of, infos_of, PassesBytes, Progress, HasPushed, IsCutOff}
+use Rattle.orc_file_writer.specs.Writing.{WrittenStripe, AreWrittenStripes, AreFull, written_bytes, rows_of, infos_of, PassesBytes, Progress, HasPushed, IsCutOff}
 use Rattle.orc_tail.specs.declared.fault.FileFault.TheVariants as file
-use Rattle.orc_cli_write.specs.Lines.{AreLines, LinesSpell, LineSpellsRows, AreRowsOf}
-use Rattle.orc_cli_output.specs.Output.{IsWantOfMemory, IsOutside}
+use Rattle.orc_cli_write.specs.Lines.{AreLines, LinesSpell, LineSpellsRows, AreRowsOfLines}
+use Rattle.orc_cli_output.specs.Output.{IsWantOfMemory, IsOutputOrMemory}
 use Rattle.orc_cli_output.specs.declared.fault.CliFault.{CliFault}
 use Rattle.orc_cli_output.specs.declared.fault.CliFault.TheVariants.{Run, Types, Json, File}
 
@@ -44,7 +44,7 @@ IsWantOfWrite old new fault = ((fault ≡ Types types.OutOfMemory) × (new ≡ o
 
 -- the refusals of a writer whose rows fit its schema
 abbrev pub IsOfWriter : CliFault → Type 0
-IsOfWriter fault = (fault ≡ File file.Limit) ⊎ IsOutside fault
+IsOfWriter fault = (fault ≡ File file.Limit) ⊎ IsOutputOrMemory fault
 
 -- Why the row of a line isn't pushed, and the rows of the line that the writer was given: none where the line
 -- spells none, or there was no memory to read it.
@@ -55,7 +55,7 @@ EndsAtLine s line fault own =
     ⊎ (LineSpellsRows s line own × IsOfWriter fault))
 
 -- a line of the bytes, which isn't empty, and the rows that the lines before it spell
-pub record StopsAt (s : Shape) (bytes : List ℕ) (rows : List Cell) (line : List ℕ) : Type 0 where
+pub record StopsAtLine (s : Shape) (bytes : List ℕ) (rows : List Cell) (line : List ℕ) : Type 0 where
   pub ended : List (List ℕ)
   pub last : List ℕ
   pub lines : AreLines bytes ended last
@@ -70,7 +70,7 @@ pub record EndsInLines (s : Shape) (bytes : List ℕ) (fault : CliFault) (rows :
   pub line : List ℕ
   pub before : List Cell
   pub own : List Cell
-  pub stops : StopsAt s bytes before line
+  pub stops : StopsAtLine s bytes before line
   pub ends : EndsAtLine s line fault own
   pub rows_are : rows ≡ before ++ own
 
@@ -79,8 +79,8 @@ pub record EndsInLines (s : Shape) (bytes : List ℕ) (fault : CliFault) (rows :
 abbrev pub EndsUnder : Shape → List ℕ → CliFault → List Cell → Type 0
 EndsUnder s bytes fault rows =
     EndsInLines s bytes fault rows
-    ⊎ (((rows ≡ []) × IsOutside fault)
-    ⊎ (AreRowsOf s bytes rows × IsOfWriter fault))
+    ⊎ (((rows ≡ []) × IsOutputOrMemory fault)
+    ⊎ (AreRowsOfLines s bytes rows × IsOfWriter fault))
 
 -- a column of a stripe's rows has more cells than it may have
 abbrev pub HaveManyCells : Shape → List Cell → Type 0
@@ -112,7 +112,7 @@ pub record StandsOpen (options : Options) (s : Shape) (first told : Option (List
   pub kept : List Cell
   pub are : AreWrittenStripes options s 3 stripes_written
   pub full : AreFull options.stripe_rows stripes_written
-  pub told_is : told ≡ appended first (magic ++ bytes_of stripes_written)
+  pub told_is : told ≡ appended first (magic ++ written_bytes stripes_written)
   pub rows_are : rows ≡ rows_of stripes_written ++ kept
   pub few : length kept < options.stripe_rows
 

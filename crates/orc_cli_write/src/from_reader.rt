@@ -2,12 +2,12 @@
 ghost use Rattle.std.specs.Prelude.{◌≡◌, ◌+◌, ◌⊎◌, List, IfOk, IfErr, IfSome, OnOk, false};
 ghost use Rattle.orc_values.specs.Cells.{Cell};
 ghost use Rattle.orc_values.specs.Shapes.{Shape};
-ghost use Rattle.orc_types.specs.SchemaText.{HasText};
+ghost use Rattle.orc_types.specs.Schemas.{HasText};
 ghost use Rattle.orc_io.specs.Leaves.{HandsBackSink};
-ghost use Rattle.orc_file.specs.Progress.{progress};
-ghost use Rattle.orc_file.specs.Writing.{IsWhole};
+ghost use Rattle.orc_file_writer.specs.Progress.{progress};
+ghost use Rattle.orc_file_writer.specs.Writing.{WroteWholeFile};
 ghost use Rattle.orc_tail.specs.declared.fault.FileFault.TheVariants as file;
-ghost use Rattle.orc_cli_write.specs.Lines.{AreRowsOf};
+ghost use Rattle.orc_cli_write.specs.Lines.{AreRowsOfLines};
 ghost use Rattle.orc_cli_write.specs.Pushes.{LeavesWriter};
 ghost use Rattle.orc_cli_write.specs.Writes.{IsOfWriter, IsWantOfLines, IsWantOfWrite, EndsInLines, PushesAlso};
 ghost use Rattle.orc_cli_write.specs.Reads.{BeginWith, LeavesReading, RefusesLines};
@@ -17,9 +17,11 @@ ghost use Rattle.orc_cli_output.specs.declared.fault.CliFault.TheVariants.{File}
 use crate::line_reader::LineReader;
 use crate::write::push_line;
 use orc_cli_output::CliFault;
-use orc_file::{FileFault, Sink, Tail, Writer};
-use orc_json_reader::RowReader;
-use orc_stripe::Options;
+use orc_file_writer::Writer;
+use orc_io::Sink;
+use orc_json::RowReader;
+use orc_row_batch::Options;
+use orc_tail::{FileFault, Tail};
 use orc_types::Schema;
 use std::alloc::Global;
 
@@ -30,7 +32,7 @@ fn push_read<L: LineReader, W: Sink>(
     writer: &mut Writer<W>,
 ) -> Result<(), CliFault>
     ensures pushed { OnOk result ((own : List Cell)
-        × IfSome (L.remaining lines.old) (λ bytes. AreRowsOf writer.old.schema bytes own)
+        × IfSome (L.remaining lines.old) (λ bytes. AreRowsOfLines writer.old.schema bytes own)
         × PushesAlso (progress W.told writer.old) (progress W.told writer.new) own) }
     ensures writer { LeavesWriter W.failures writer.old writer.new result }
     ensures kept { OnOk result (L.failures lines.new ≡ L.failures lines.old) }
@@ -79,13 +81,13 @@ pub fn write_lines<L: LineReader, W: Sink>(
     // tail is returned. The rows are those that the lines of the input spell, in order, if the input's bytes
     // are known.
     ensures written { IfOk result (λ done. (s : Shape) × (rows : List Cell) × HasText s schema.now
-        × IfSome (L.remaining lines.old) (λ bytes. AreRowsOf s bytes rows)
-        × IsWhole options s done.0 (W.told out) (W.told done.1) rows) }
+        × IfSome (L.remaining lines.old) (λ bytes. AreRowsOfLines s bytes rows)
+        × WroteWholeFile options s done.0 (W.told out) (W.told done.1) rows) }
     // If the input's bytes are known, `schema` is the text of a schema, and each line of the input that isn't
     // empty spells a row of this schema, then an error is `Limit`, `WriteFailed`, `SourceFailed` or
     // `OutOfMemory`.
     ensures only { IfSome (L.remaining lines.old) (λ bytes. (s : Shape) (rows : List Cell) → HasText s schema.now
-        → AreRowsOf s bytes rows → IfErr result (λ e. IsOfWriter e.0 ⊎ (e.0 ≡ File file.SourceFailed))) }
+        → AreRowsOfLines s bytes rows → IfErr result (λ e. IsOfWriter e.0 ⊎ (e.0 ≡ File file.SourceFailed))) }
     // If the call succeeds, then the input's count of failures is unchanged.
     ensures kept { OnOk result (L.failures lines.new ≡ L.failures lines.old) }
 

@@ -1,7 +1,7 @@
 //! Why the next line isn't there.
 
 use orc_cli_output::CliFault;
-use orc_file::FileFault;
+use orc_tail::FileFault;
 
 /// Why the next line isn't there. A command tells it as a fault of the layer of files:
 /// `SourceFailed` where reading failed, and want of memory else.

@@ -2,20 +2,22 @@
 ghost use Rattle.std.specs.Prelude.{◌≡◌, ◌≢◌, List, [], IfOk, IfErr, OnOk, false};
 ghost use Rattle.orc_values.specs.Cells.{Cell};
 ghost use Rattle.orc_values.specs.Shapes.{Shape};
-ghost use Rattle.orc_types.specs.SchemaText.{HasText};
+ghost use Rattle.orc_types.specs.Schemas.{HasText};
 ghost use Rattle.orc_io.specs.Leaves.{HandsBackSink};
-ghost use Rattle.orc_file.specs.Progress.{progress};
-ghost use Rattle.orc_file.specs.Writing.{IsWhole};
-ghost use Rattle.orc_cli_write.specs.Lines.{LineSpellsRows, AreRowsOf};
+ghost use Rattle.orc_file_writer.specs.Progress.{progress};
+ghost use Rattle.orc_file_writer.specs.Writing.{WroteWholeFile};
+ghost use Rattle.orc_cli_write.specs.Lines.{LineSpellsRows, AreRowsOfLines};
 ghost use Rattle.orc_cli_output.specs.Output.{IsWantOfMemory, write_failed};
 ghost use Rattle.orc_cli_write.specs.Pushes.{LeavesWriter};
 ghost use Rattle.orc_cli_write.specs.Writes.{IsOfLine, IsOfWriter, IsWantOfWrite, EndsAtLine, EndsInLines, PushesAlso, LeavesAtLine, RefusesWrite};
 
 use crate::line_end::line_length;
 use orc_cli_output::CliFault;
-use orc_file::{Sink, Tail, Writer};
-use orc_json_reader::RowReader;
-use orc_stripe::Options;
+use orc_file_writer::Writer;
+use orc_io::Sink;
+use orc_json::RowReader;
+use orc_row_batch::Options;
+use orc_tail::Tail;
 use orc_types::Schema;
 use std::alloc::Global;
 
@@ -49,7 +51,7 @@ pub(crate) fn push_line<W: Sink>(
 
 /// Pushes the rows of lines.
 fn push_lines<W: Sink>(alloc: Global, input: &[u8], writer: &mut Writer<W>) -> Result<(), CliFault>
-    ensures pushed { OnOk result ((own : List Cell) × AreRowsOf writer.old.schema input.now own
+    ensures pushed { OnOk result ((own : List Cell) × AreRowsOfLines writer.old.schema input.now own
         × PushesAlso (progress W.told writer.old) (progress W.told writer.new) own) }
     ensures writer { LeavesWriter W.failures writer.old writer.new result }
 
@@ -96,11 +98,11 @@ pub fn write_from<W: Sink>(
     // schema. The output has got exactly the whole file of these rows, in order, if the output's bytes are
     // known. This file has fewer than 2^64 bytes, and its tail is returned.
     ensures written { IfOk result (λ done. (s : Shape) × (rows : List Cell)
-        × HasText s schema.now × AreRowsOf s input.now rows
-        × IsWhole options s done.0 (W.told out) (W.told done.1) rows) }
+        × HasText s schema.now × AreRowsOfLines s input.now rows
+        × WroteWholeFile options s done.0 (W.told out) (W.told done.1) rows) }
     // If `schema` is the text of a schema, and each line of `input` that isn't empty spells a row of this
     // schema, then an error is `Limit`, `WriteFailed` or `OutOfMemory`.
-    ensures only { (s : Shape) (rows : List Cell) → HasText s schema.now → AreRowsOf s input.now rows
+    ensures only { (s : Shape) (rows : List Cell) → HasText s schema.now → AreRowsOfLines s input.now rows
         → IfErr result (λ e. IsOfWriter e.0) }
 
     // An error is `Types` with a fault of the text `schema`, or `schema` is the text of a schema and the error

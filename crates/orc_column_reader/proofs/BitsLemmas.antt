@@ -5,9 +5,9 @@ use Rattle.std.proofs.lemmas.List.{length-map}
 use Rattle.orc_bits.specs.Packed.{bits, digits, packed_len, IsPacked}
 use Rattle.orc_bits.proofs.PackedLemmas.{length-bits, length-digits}
 use Rattle.orc_rle.specs.BitStream.{digit, IsBitStream}
-use Rattle.orc_rle.specs.ByteLaws.{stream_bytes, one_byte_run, byte_run_some}
+use Rattle.orc_rle.proofs.ByteLaws.{stream_bytes, one_byte_run, byte_run_some}
 use Rattle.orc_rle.specs.ByteRun.{IsByteRun}
-use Rattle.orc_rle.specs.BitLaws.{one_held}
+use Rattle.orc_rle.proofs.BitLaws.{one_held}
 use Rattle.orc_rle.proofs.BitLemmas.{digits_one, digits_fit}
 use Rattle.orc_rle.proofs.StreamLemmas.{one_stream}
 use Rattle.orc_column_reader.specs.declared.bits.Bits.{Bits}
@@ -71,7 +71,7 @@ digits_more : (b : ℕ) (bs : List ℕ) → digits 8 (b ∷ bs) ≡ bits b 8 ++ 
 unfolding digits
 digits_more b bs = refl
 
-no_digits : digits 8 [] ≡ []
+pub no_digits : digits 8 [] ≡ []
 unfolding digits
 no_digits = refl
 

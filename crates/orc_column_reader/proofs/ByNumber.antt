@@ -1,5 +1,5 @@
 -- Rows are spelled column by column, by the columns' numbers, where they are spelled going down the schema.
-use Rattle.std.proofs.Common.{◌≡◌, ℕ, zero, suc, ◌+◌, ◌-◌, ◌<◌, ◌≤◌, ◌^◌, ℤ, pos, negsuc, Bool, true, false, ltb, List, [], ◌∷◌, ◌++◌, map, length, take, drop, refl, sym, ap, ◌∙◌, subst, arith, inl, inr}
+use Rattle.std.proofs.Common.{◌≡◌, ℕ, zero, suc, ◌+◌, ◌-◌, ◌<◌, ◌^◌, ℤ, pos, negsuc, Bool, true, false, ltb, List, [], ◌∷◌, ◌++◌, map, length, take, drop, refl, sym, ap, ◌∙◌, subst, arith, inl, inr}
 use Rattle.std.proofs.lemmas.Bool.{lt-ltb, le-ltb, and_parts, cases_lt}
 use Rattle.std.specs.List.{AllByRecursion, flat_map, AllZip}
 use Rattle.orc_values.specs.Cells.{Cell, null, leaf, list, struct, pairs, Cells, end, more, cells_of, list_of_cells, pairs_of, parts, pairs_in, keys_in, values_in, values}
@@ -11,16 +11,14 @@ use Rattle.orc_values.specs.declared.kind.Scalar.TheVariants as kind
 use Rattle.orc_values.proofs.Views.{list_of_cells-cells_of, cells_of-list_of_cells, list_of_pairs-pairs_of, pairs_of-list_of_pairs}
 use Rattle.orc_values.proofs.Together.{keys_fit, values_fit as seconds_fit}
 use Rattle.std.proofs.lemmas.List.{length-map, map-append}
-use Rattle.orc_column_reader.specs.Spellings.{size, joined, zip_cons}
+use Rattle.orc_column_reader.specs.Spellings.{size, concatenated, zip_cons}
 use Rattle.orc_column_reader.specs.Columns.{IsBool, IsByte, signed_byte, IsInt, IsDate, IsText, IsBinary, IsEntry, IsList, IsMap, IsRecord}
 use Rattle.orc_column_reader.specs.Stripe.{Streams, SpellsScalar, IsColumn, SpellRows, SpellsFields, SpellsCells, has_dictionary, SpellsTexts}
 use Rattle.orc_column_reader.proofs.Fronts.{length-zip, stand_length}
+use Rattle.orc_values.proofs.Lists.{all_append, values_few}
+use Rattle.orc_values.proofs.Deeper.{width_pos, cells-zero}
 
 -- ---- what fits
-
-all-append : {X : Type 0} (P : X → Type 0) (a b : List X) → AllByRecursion P a → AllByRecursion P b → AllByRecursion P (a ++ b)
-all-append P [] b h k = k
-all-append P (x ∷ a) b h k = (h.0, all-append P a b h.1 k)
 
 pub all-front : {X : Type 0} (P : X → Type 0) (a b : List X) → AllByRecursion P (a ++ b) → AllByRecursion P a × AllByRecursion P b
 all-front P [] b h = (tt, h)
@@ -107,15 +105,15 @@ fit_of_all s (more c cs) h = let p = and_parts (fits c s) (all_fit cs s) h in (p
 -- lists, their elements joined, and their sizes
 pub record Lists (s : Shape) (o : List ℕ) (byte_strings : List (List Cell)) (vs : List Cell) : Type 0 where
   pub fit : RowsFit (list_of s o) vs
-  pub elements : flat_map parts vs ≡ joined byte_strings
+  pub elements : flat_map parts vs ≡ concatenated byte_strings
   pub sizes : map (λ v. size (parts v)) vs ≡ map size byte_strings
 
-pub lists_of : (s : Shape) (o : List ℕ) (byte_strings : List (List Cell)) (vs : List Cell) → AllZip IsList byte_strings vs → RowsFit s (joined byte_strings) → Lists s o byte_strings vs
+pub lists_of : (s : Shape) (o : List ℕ) (byte_strings : List (List Cell)) (vs : List Cell) → AllZip IsList byte_strings vs → RowsFit s (concatenated byte_strings) → Lists s o byte_strings vs
 lists_of s o [] [] h f = record { fit = tt; elements = refl; sizes = refl }
 lists_of s o [] (v ∷ vs) h f = absurd h
 lists_of s o (g ∷ byte_strings) [] h f = absurd h
 lists_of s o (g ∷ byte_strings) (v ∷ vs) h f =
-    let a = all-front (λ c. fits c s ≡ true) g (joined byte_strings) f in
+    let a = all-front (λ c. fits c s ≡ true) g (concatenated byte_strings) f in
     let l = lists_of s o byte_strings vs h.1 a.1 in
     let p : parts v ≡ g = ap parts h.0 ∙ list_of_cells-cells_of g in
     record {
@@ -127,7 +125,7 @@ lists_of s o (g ∷ byte_strings) (v ∷ vs) h f =
 -- values that fit a list's type are lists
 pub record AreLists (s : Shape) (vs : List Cell) : Type 0 where
   pub stand : AllZip IsList (map parts vs) vs
-  pub fit : RowsFit s (joined (map parts vs))
+  pub fit : RowsFit s (concatenated (map parts vs))
 
 pub are_lists : (s : Shape) (o : List ℕ) (cs : List Cell) → RowsFit (list_of s o) cs → AreLists s (values cs)
 are_lists s o [] h = record { stand = tt; fit = tt }
@@ -137,9 +135,9 @@ are_lists s o (struct x ∷ cs) h = let k = h.0 in cc
 are_lists s o (pairs x ∷ cs) h = let k = h.0 in cc
 are_lists s o (list x ∷ cs) h =
     let r = are_lists s o cs h.1 in
-    record { stand = (ap list (sym (cells_of-list_of_cells x)), r.stand); fit = all-append (λ c. fits c s ≡ true) (list_of_cells x) (joined (map parts (values cs))) (fit_of_all s x h.0) r.fit }
+    record { stand = (ap list (sym (cells_of-list_of_cells x)), r.stand); fit = all_append (λ c. fits c s ≡ true) (list_of_cells x) (concatenated (map parts (values cs))) (fit_of_all s x h.0) r.fit }
 
-pub joined_parts : (vs : List Cell) → joined (map parts vs) ≡ flat_map parts vs
+pub joined_parts : (vs : List Cell) → concatenated (map parts vs) ≡ flat_map parts vs
 joined_parts [] = refl
 joined_parts (v ∷ vs) = ap (λ t. parts v ++ t) (joined_parts vs)
 
@@ -162,19 +160,19 @@ pairs_fit_of k v (p ∷ ps) h f = rw (h.0, f.0, pairs_fit_of k v ps h.1 f.1) ref
 -- maps, their keys and values joined, and how many pairs they have
 pub record Maps (k v : Shape) (o : List ℕ) (byte_strings : List (List (Cell × Cell))) (vs : List Cell) : Type 0 where
   pub fit : RowsFit (map_of k v o) vs
-  pub keys : flat_map keys_in vs ≡ map first_of (joined byte_strings)
-  pub seconds : flat_map values_in vs ≡ map second_of (joined byte_strings)
+  pub keys : flat_map keys_in vs ≡ map first_of (concatenated byte_strings)
+  pub seconds : flat_map values_in vs ≡ map second_of (concatenated byte_strings)
   pub sizes : map (λ m. size (pairs_in m)) vs ≡ map size byte_strings
 
-pub maps_of : (k v : Shape) (o : List ℕ) (byte_strings : List (List (Cell × Cell))) (vs : List Cell) → AllZip IsMap byte_strings vs → RowsFit k (map first_of (joined byte_strings)) → RowsFit v (map second_of (joined byte_strings)) → Maps k v o byte_strings vs
+pub maps_of : (k v : Shape) (o : List ℕ) (byte_strings : List (List (Cell × Cell))) (vs : List Cell) → AllZip IsMap byte_strings vs → RowsFit k (map first_of (concatenated byte_strings)) → RowsFit v (map second_of (concatenated byte_strings)) → Maps k v o byte_strings vs
 maps_of k v o [] [] h f e = record { fit = tt; keys = refl; seconds = refl; sizes = refl }
 maps_of k v o [] (c ∷ vs) h f e = absurd h
 maps_of k v o (g ∷ byte_strings) [] h f e = absurd h
 maps_of k v o (g ∷ byte_strings) (c ∷ vs) h f e =
-    let i = map-append first_of g (joined byte_strings) in
-    let j = map-append second_of g (joined byte_strings) in
-    let a = all-front (λ x. fits x k ≡ true) (map first_of g) (map first_of (joined byte_strings)) (subst (RowsFit k) i f) in
-    let b = all-front (λ x. fits x v ≡ true) (map second_of g) (map second_of (joined byte_strings)) (subst (RowsFit v) j e) in
+    let i = map-append first_of g (concatenated byte_strings) in
+    let j = map-append second_of g (concatenated byte_strings) in
+    let a = all-front (λ x. fits x k ≡ true) (map first_of g) (map first_of (concatenated byte_strings)) (subst (RowsFit k) i f) in
+    let b = all-front (λ x. fits x v ≡ true) (map second_of g) (map second_of (concatenated byte_strings)) (subst (RowsFit v) j e) in
     let l = maps_of k v o byte_strings vs h.1 a.1 b.1 in
     let p : pairs_in c ≡ g = ap pairs_in h.0 ∙ list_of_pairs-pairs_of g in
     record {
@@ -193,13 +191,13 @@ are_maps k v o (list x ∷ cs) h = let q = h.0 in cc
 are_maps k v o (struct x ∷ cs) h = let q = h.0 in cc
 are_maps k v o (pairs x ∷ cs) h = (ap pairs (sym (pairs_of-list_of_pairs x)), are_maps k v o cs h.1)
 
-pub joined_keys : (vs : List Cell) → map first_of (joined (map pairs_in vs)) ≡ flat_map keys_in vs
+pub joined_keys : (vs : List Cell) → map first_of (concatenated (map pairs_in vs)) ≡ flat_map keys_in vs
 joined_keys [] = refl
-joined_keys (c ∷ vs) = map-append first_of (pairs_in c) (joined (map pairs_in vs)) ∙ ap (λ t. keys_in c ++ t) (joined_keys vs)
+joined_keys (c ∷ vs) = map-append first_of (pairs_in c) (concatenated (map pairs_in vs)) ∙ ap (λ t. keys_in c ++ t) (joined_keys vs)
 
-pub joined_seconds : (vs : List Cell) → map second_of (joined (map pairs_in vs)) ≡ flat_map values_in vs
+pub joined_seconds : (vs : List Cell) → map second_of (concatenated (map pairs_in vs)) ≡ flat_map values_in vs
 joined_seconds [] = refl
-joined_seconds (c ∷ vs) = map-append second_of (pairs_in c) (joined (map pairs_in vs)) ∙ ap (λ t. values_in c ++ t) (joined_seconds vs)
+joined_seconds (c ∷ vs) = map-append second_of (pairs_in c) (concatenated (map pairs_in vs)) ∙ ap (λ t. values_in c ++ t) (joined_seconds vs)
 
 pub pair_sizes : (vs : List Cell) → map size (map pairs_in vs) ≡ map (λ m. size (pairs_in m)) vs
 pair_sizes [] = refl
@@ -258,14 +256,6 @@ are_records fs o (struct x ∷ cs) h =
     let r = are_records fs o cs h.1 in
     record { stand = (ap struct (sym (cells_of-list_of_cells x)), r.stand); fit = (ap (λ t. each_fits t fs) (cells_of-list_of_cells x) ∙ h.0, r.fit) }
 
-values_few : (cs : List Cell) → length (values cs) ≤ length cs
-values_few [] = omega arith
-values_few (null ∷ cs) = omega (arith, values_few cs)
-values_few (leaf x ∷ cs) = omega (arith, values_few cs)
-values_few (list x ∷ cs) = omega (arith, values_few cs)
-values_few (struct x ∷ cs) = omega (arith, values_few cs)
-values_few (pairs x ∷ cs) = omega (arith, values_few cs)
-
 pub empties_fit : (structs : List (List Cell)) → AllByRecursion (λ cs. cs ≡ []) structs → FieldsFit no_field structs
 empties_fit [] h = tt
 empties_fit (f ∷ structs) h = (ap (λ t. each_fits (cells_of t) no_field) h.0, empties_fit structs h.1)
@@ -314,17 +304,17 @@ mutual
       record { counted = refl; fit = fits_of_values (scalar k o) cs (scalar_fit k o (x 0) (values cs) h.1); column = scalar_column k o x cs few h }
   to_number (list_of s o) x cs few h =
       let r = h.1 in
-      let inner = to_number s (λ c. x (suc c)) (joined r.0) (omega (arith, r.2.1.0)) r.2.1.1 in
+      let inner = to_number s (λ c. x (suc c)) (concatenated r.0) (omega (arith, r.2.1.0)) r.2.1.1 in
       let l = lists_of s o r.0 (values cs) r.1 inner.fit in
-      let below = subst (λ (t : List Cell). SpellRows s (λ c. x (suc c)) (length (joined r.0)) t) (sym l.elements) inner in
+      let below = subst (λ (t : List Cell). SpellRows s (λ c. x (suc c)) (length (concatenated r.0)) t) (sym l.elements) inner in
       record {
         counted = refl;
         fit = fits_of_values (list_of s o) cs l.fit;
-        column = list_column s o x cs (length (joined r.0)) (record { few = few; marks = h.0; spelled = rw l.sizes r.2.0 }) below;
+        column = list_column s o x cs (length (concatenated r.0)) (record { few = few; marks = h.0; spelled = rw l.sizes r.2.0 }) below;
       }
   to_number (map_of k v o) x cs few h =
       let r = h.1 in
-      let ps = joined r.0 in
+      let ps = concatenated r.0 in
       let first = to_number k (λ c. x (suc c)) (map first_of ps) (omega (arith, r.2.1.0, length-map ps first_of)) r.2.1.1.0 in
       let second = to_number v (λ c. x (suc (width k + c))) (map second_of ps) (omega (arith, r.2.1.0, length-map ps second_of)) r.2.1.1.1 in
       let l = maps_of k v o r.0 (values cs) r.1 first.fit second.fit in
@@ -361,20 +351,8 @@ mutual
 
 -- ---- and back
 
-pub first_cells : (s : Shape) (rows : List Cell) → cells s 0 rows ≡ rows
-first_cells (scalar k o) rows = refl
-first_cells (list_of s o) rows = refl
-first_cells (map_of k v o) rows = refl
-first_cells (struct_of fs o) rows = refl
-
-pub wide : (s : Shape) → 0 < width s
-wide (scalar k o) = omega arith
-wide (list_of s o) = omega arith
-wide (map_of k v o) = omega arith
-wide (struct_of fs o) = omega arith
-
 few_cells : (s : Shape) (x : ℕ → Streams) (n : ℕ) (rows : List Cell) → SpellRows s x n rows → length rows < 2 ^ 31
-few_cells s x n rows r = omega (arith, ap length (first_cells s rows), (r.column 0 (wide s)).few)
+few_cells s x n rows r = omega (arith, ap length (cells-zero s rows), (r.column 0 (width_pos s)).few)
 
 pub record Split (s : Shape) (fs : Fields) (structs : List (List Cell)) : Type 0 where
   pub heads : RowsFit s (flat_map (take 1) structs)
@@ -436,7 +414,7 @@ mutual
   from_number (map_of k v o) x n cs r =
       let own = r.column 0 (omega arith) in
       let vs = values cs in
-      let ps = joined (map pairs_in vs) in
+      let ps = concatenated (map pairs_in vs) in
       let keys : SpellRows k (λ c. x (suc c)) (length (flat_map keys_in vs)) (flat_map keys_in vs) =
       record { counted = refl; fit = keys_fit k v o cs r.fit; column = key_column k v o x cs r.column } in
       let seconds : SpellRows v (λ c. x (suc (width k + c))) (length (flat_map values_in vs)) (flat_map values_in vs) =

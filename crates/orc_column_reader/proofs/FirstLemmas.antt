@@ -2,7 +2,6 @@
 use Rattle.std.proofs.Common.{◌≡◌, ℕ, ◌+◌, ◌<◌, ◌≤◌, ℤ, pos, negsuc, Bool, true, List, [], ◌∷◌, ◌++◌, map, length, take, drop, sum, refl, sym, ap, ◌∙◌, subst, arith, append_assoc, append-nil, take-append-drop}
 use Rattle.std.specs.List.{AllByRecursion}
 use Rattle.std.specs.Str.{is_utf8}
-use Rattle.std.proofs.lemmas.List.Sums.{sum_by-cons}
 use Rattle.orc_rle.specs.declared.sign.Sign.{Sign}
 use Rattle.orc_rle.specs.declared.sign.Sign.TheVariants.{Unsigned}
 use Rattle.orc_rle.specs.Values.{InRange, AllInRange}
@@ -12,9 +11,10 @@ use Rattle.orc_rle.specs.declared.sign.Rle.TheVariants.{One, Two}
 use Rattle.orc_column_reader.specs.Fronts.{Precedes}
 use Rattle.orc_column_reader.specs.Numbers.{is_run}
 use Rattle.orc_column_reader.specs.ReaderFaults.{Pass}
-use Rattle.orc_column_reader.specs.Runs.{RunsFirst, Begins}
-use Rattle.orc_column_reader.specs.Spellings.{size, joined}
-use Rattle.orc_column_reader.proofs.RunsLemmas.{drop_twice, past_end}
+use Rattle.orc_column_reader.specs.Runs.{RunsFirst, RunsBegin}
+use Rattle.orc_column_reader.specs.Spellings.{size, concatenated}
+use Rattle.orc_column_reader.proofs.RunsLemmas.{past_end}
+use Rattle.orc_values.proofs.Lists.{drop_twice, all_append, sum_more}
 use Rattle.orc_column_reader.specs.ValueFaults.{NotAll, CutsNoText, PassTogether, StayBelow}
 
 -- ---- of runs
@@ -56,9 +56,6 @@ not_all_now passes before after n p none h = (n ∷ [], p [] none, λ all. h all
 
 -- ---- of lengths
 
-pub sum_more : (n : ℕ) (ns : List ℕ) → sum (n ∷ ns) ≡ n + sum ns
-sum_more n ns = sum_by-cons (λ (x : ℕ). x) n ns
-
 pass_more : (n most most' : ℕ) (numbers : List ℤ) (lengths : List ℕ) → most ≡ n + most' → ((ls : List ℕ) → numbers ≡ map pos ls → most' < sum ls) → pos n ∷ numbers ≡ map pos lengths → most < sum lengths
 pass_more n most most' numbers [] e h is = cc
 pass_more n most most' numbers (m ∷ lengths) e h is =
@@ -96,7 +93,7 @@ below_now all (x ∷ rest) h some = ([], h, omega arith)
 
 pub no_text_before : (before after : List ℤ → Type 0) (front bytes rest : List ℕ) → Precedes before after (size front ∷ []) → bytes ≡ front ++ rest → CutsNoText after rest → CutsNoText before bytes
 no_text_before before after front bytes rest p e h =
-    (front ∷ h.0, h.1, p (map size h.0) h.2, e ∙ ap (λ t. front ++ t) h.3 ∙ sym (append_assoc front (joined h.0) h.1), λ all. h.4 all.1)
+    (front ∷ h.0, h.1, p (map size h.0) h.2, e ∙ ap (λ t. front ++ t) h.3 ∙ sym (append_assoc front (concatenated h.0) h.1), λ all. h.4 all.1)
 
 pub no_text_now : (before after : List ℤ → Type 0) (front bytes rest : List ℕ) → Precedes before after (size front ∷ []) → after [] → bytes ≡ front ++ rest → (is_utf8 front ≡ true → ⊥) → CutsNoText before bytes
 no_text_now before after front bytes rest p none e bad =
@@ -104,15 +101,11 @@ no_text_now before after front bytes rest p none e bad =
 
 -- ---- from the start of a stream
 
-pub first_begins : {A : Type 0} (is_run : List ℕ → List A → Type 0) (pending : List A) (bytes : List ℕ) (all : List A) → pending ≡ [] → RunsFirst is_run pending bytes all → Begins is_run bytes all
+pub first_begins : {A : Type 0} (is_run : List ℕ → List A → Type 0) (pending : List A) (bytes : List ℕ) (all : List A) → pending ≡ [] → RunsFirst is_run pending bytes all → RunsBegin is_run bytes all
 first_begins is_run pending bytes all none h =
     (h.0, h.1, h.2, h.3, subst (λ t. IsStream is_run h.0 t) (sym (h.4.1 ∙ ap (λ t. t ++ h.4.0) none)) h.4.2)
 
 -- ---- lengths are no negative numbers
-
-all_append : {X : Type 0} (P : X → Type 0) (a b : List X) → AllByRecursion P a → AllByRecursion P b → AllByRecursion P (a ++ b)
-all_append P [] b p q = q
-all_append P (x ∷ a) b p q = (p.0, all_append P a b p.1 q)
 
 all_front : {X : Type 0} (P : X → Type 0) (a b : List X) → AllByRecursion P (a ++ b) → AllByRecursion P a
 all_front P [] b p = tt
@@ -137,8 +130,8 @@ naturals_are [] h = refl
 naturals_are (pos n ∷ ns) h = ap (λ t. pos n ∷ t) (naturals_are ns h.1)
 naturals_are (negsuc n ∷ ns) h = absurd h.0
 
-pub begin_lengths : (v : Rle) (bytes : List ℕ) (most : ℕ) → Pass (Begins (is_run v Unsigned) bytes) most → PassTogether (Begins (is_run v Unsigned) bytes) most
+pub begin_lengths : (v : Rle) (bytes : List ℕ) (most : ℕ) → Pass (RunsBegin (is_run v Unsigned) bytes) most → PassTogether (RunsBegin (is_run v Unsigned) bytes) most
 begin_lengths v bytes most h =
     let b = h.1 in
     let e = naturals_are h.0 (all_front (InRange Unsigned) h.0 b.2 (runs_in_range v Unsigned b.4.0 b.0 (h.0 ++ b.2) b.4.1)) in
-    (naturals h.0, subst (λ t. Begins (is_run v Unsigned) bytes t) e h.1, h.2 (naturals h.0) e)
+    (naturals h.0, subst (λ t. RunsBegin (is_run v Unsigned) bytes t) e h.1, h.2 (naturals h.0) e)

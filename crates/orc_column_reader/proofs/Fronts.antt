@@ -5,7 +5,8 @@ use Rattle.std.proofs.lemmas.List.{length-map, map-append}
 use Rattle.orc_values.specs.Cells.{Cell, null, leaf, list, struct, pairs, is_value, values}
 use Rattle.orc_values.specs.Trues.{trues}
 use Rattle.orc_column_reader.specs.Fronts.{Leaves, Lacks}
-use Rattle.orc_column_reader.specs.Spellings.{Nullable, Standing, size, joined, Sized, Within, Paired, zip_cons, Fielded}
+use Rattle.orc_column_reader.specs.Spellings.{Nullable, Standing, size, concatenated, Sized, Within, Paired, zip_cons, Fielded}
+use Rattle.orc_values.proofs.Together.{values-append, same_cells}
 
 -- nothing was taken
 pub nothing : {X : Type 0} (before : List X → Type 0) → Leaves before before []
@@ -118,26 +119,26 @@ none_stands stands before after xs p none = λ all r le.
 
 -- ---- groups
 
-pub joined-append : {X : Type 0} (a b : List (List X)) → joined (a ++ b) ≡ joined a ++ joined b
+pub joined-append : {X : Type 0} (a b : List (List X)) → concatenated (a ++ b) ≡ concatenated a ++ concatenated b
 joined-append [] b = refl
-joined-append (x ∷ a) b = ap (λ t. x ++ t) (joined-append a b) ∙ sym (append_assoc x (joined a) (joined b))
+joined-append (x ∷ a) b = ap (λ t. x ++ t) (joined-append a b) ∙ sym (append_assoc x (concatenated a) (concatenated b))
 
 size_same : {X : Type 0} (a b : List X) → size a ≡ size b → length a ≡ length b
 size_same a b e = cc
 
 -- groups of the same sizes are cut at the same places
-pub same_groups : {X : Type 0} (a b : List (List X)) (x y : List X) → map size a ≡ map size b → joined a ++ x ≡ joined b ++ y → (a ≡ b) × (x ≡ y)
+pub same_groups : {X : Type 0} (a b : List (List X)) (x y : List X) → map size a ≡ map size b → concatenated a ++ x ≡ concatenated b ++ y → (a ≡ b) × (x ≡ y)
 same_groups [] [] x y s e = (refl, e)
 same_groups [] (d ∷ b) x y s e = cc
 same_groups (c ∷ a) [] x y s e = cc
 same_groups (c ∷ a) (d ∷ b) x y s e =
     let h : size c ≡ size d = cc in
     let t : map size a ≡ map size b = cc in
-    let p = same_pieces c d (joined a ++ x) (joined b ++ y) (size_same c d h) (sym (append_assoc c (joined a) x) ∙ e ∙ append_assoc d (joined b) y) in
+    let p = same_pieces c d (concatenated a ++ x) (concatenated b ++ y) (size_same c d h) (sym (append_assoc c (concatenated a) x) ∙ e ∙ append_assoc d (concatenated b) y) in
     let q = same_groups a b x y t p.back in
     (ap (λ z. z ∷ a) p.front ∙ ap (λ z. d ∷ z) q.0, q.1)
 
-pub joined_length : {X Y : Type 0} (a : List (List X)) (b : List (List Y)) → map size a ≡ map size b → length (joined a) ≡ length (joined b)
+pub joined_length : {X Y : Type 0} (a : List (List X)) (b : List (List Y)) → map size a ≡ map size b → length (concatenated a) ≡ length (concatenated b)
 joined_length [] [] s = refl
 joined_length [] (d ∷ b) s = cc
 joined_length (c ∷ a) [] s = cc
@@ -145,7 +146,7 @@ joined_length (c ∷ a) (d ∷ b) s =
     let h : size c ≡ size d = cc in
     let t : map size a ≡ map size b = cc in
     let l : length c ≡ length d = cc in
-    omega (arith, l, joined_length a b t, length-append c (joined a), length-append d (joined b))
+    omega (arith, l, joined_length a b t, length-append c (concatenated a), length-append d (concatenated b))
 
 -- the strings in front, by their sizes
 pub record GroupsApart {X : Type 0} (all : List (List X)) (sizes more : List ℤ) : Type 0 where
@@ -162,16 +163,16 @@ groups_apart all sizes more e =
     record { front = c.front; back = c.back; parts = c.parts; front_sizes = p.front; back_sizes = p.back }
 
 pub grouped_leaves : {X : Type 0} (sizes sizes' : List ℤ → Type 0) (elements elements' : List X → Type 0) (byte_strings : List (List X))
-    → Leaves sizes sizes' (map size byte_strings) → Leaves elements elements' (joined byte_strings) → Leaves (Sized sizes elements) (Sized sizes' elements') byte_strings
+    → Leaves sizes sizes' (map size byte_strings) → Leaves elements elements' (concatenated byte_strings) → Leaves (Sized sizes elements) (Sized sizes' elements') byte_strings
 grouped_leaves sizes sizes' elements elements' byte_strings p q = record {
   found = λ rest r.
-      (subst sizes (sym (map-append size byte_strings rest)) (p.found (map size rest) r.0), subst elements (sym (joined-append byte_strings rest)) (q.found (joined rest) r.1));
+      (subst sizes (sym (map-append size byte_strings rest)) (p.found (map size rest) r.0), subst elements (sym (joined-append byte_strings rest)) (q.found (concatenated rest) r.1));
   only = λ all r le.
       let i = p.only (map size all) r.0 (omega (arith, le, length-map all size, length-map byte_strings size)) in
       let g = groups_apart all (map size byte_strings) i.0 i.1 in
-      let e = ap joined g.parts ∙ joined-append g.front g.back in
-      let j = q.only (joined all) r.1 (omega (arith, ap length e, length-append (joined g.front) (joined g.back), joined_length g.front byte_strings g.front_sizes)) in
-      let s = same_groups g.front byte_strings (joined g.back) j.0 g.front_sizes (sym e ∙ j.1) in
+      let e = ap concatenated g.parts ∙ joined-append g.front g.back in
+      let j = q.only (concatenated all) r.1 (omega (arith, ap length e, length-append (concatenated g.front) (concatenated g.back), joined_length g.front byte_strings g.front_sizes)) in
+      let s = same_groups g.front byte_strings (concatenated g.back) j.0 g.front_sizes (sym e ∙ j.1) in
       (g.back, g.parts ∙ ap (λ t. t ++ g.back) s.0, (subst sizes' (sym g.back_sizes) i.2, subst elements' (sym s.1) j.2));
 }
 
@@ -180,14 +181,6 @@ grouped_lacks_sizes sizes elements n p = λ all r le. p (map size all) r.0 (omeg
 
 -- ---- cells, some of them null
 
-pub values-append : (a b : List Cell) → values (a ++ b) ≡ values a ++ values b
-values-append [] b = refl
-values-append (null ∷ a) b = values-append a b
-values-append (leaf x ∷ a) b = ap (λ t. leaf x ∷ t) (values-append a b)
-values-append (list x ∷ a) b = ap (λ t. list x ∷ t) (values-append a b)
-values-append (struct x ∷ a) b = ap (λ t. struct x ∷ t) (values-append a b)
-values-append (pairs x ∷ a) b = ap (λ t. pairs x ∷ t) (values-append a b)
-
 pub length-values : (cs : List Cell) → length (values cs) ≡ trues (map is_value cs)
 length-values [] = refl
 length-values (null ∷ cs) = length-values cs
@@ -195,37 +188,6 @@ length-values (leaf x ∷ cs) = omega (arith, length-values cs)
 length-values (list x ∷ cs) = omega (arith, length-values cs)
 length-values (struct x ∷ cs) = omega (arith, length-values cs)
 length-values (pairs x ∷ cs) = omega (arith, length-values cs)
-
--- the marks and the values are all that there is
-pub same_cells : (a b : List Cell) → map is_value a ≡ map is_value b → values a ≡ values b → a ≡ b
-same_cells [] [] m v = refl
-same_cells [] (d ∷ b) m v = cc
-same_cells (c ∷ a) [] m v = cc
-same_cells (null ∷ a) (null ∷ b) m v = let n : map is_value a ≡ map is_value b = cc in ap (λ t. null ∷ t) (same_cells a b n v)
-same_cells (null ∷ a) (leaf y ∷ b) m v = cc
-same_cells (null ∷ a) (list y ∷ b) m v = cc
-same_cells (null ∷ a) (struct y ∷ b) m v = cc
-same_cells (leaf x ∷ a) (null ∷ b) m v = cc
-same_cells (leaf x ∷ a) (leaf y ∷ b) m v = let h : leaf x ≡ leaf y = cc in let n : map is_value a ≡ map is_value b = cc in let w : values a ≡ values b = cc in ap (λ t. t ∷ a) h ∙ ap (λ t. leaf y ∷ t) (same_cells a b n w)
-same_cells (leaf x ∷ a) (list y ∷ b) m v = cc
-same_cells (leaf x ∷ a) (struct y ∷ b) m v = cc
-same_cells (list x ∷ a) (null ∷ b) m v = cc
-same_cells (list x ∷ a) (leaf y ∷ b) m v = cc
-same_cells (list x ∷ a) (list y ∷ b) m v = let h : list x ≡ list y = cc in let n : map is_value a ≡ map is_value b = cc in let w : values a ≡ values b = cc in ap (λ t. t ∷ a) h ∙ ap (λ t. list y ∷ t) (same_cells a b n w)
-same_cells (list x ∷ a) (struct y ∷ b) m v = cc
-same_cells (struct x ∷ a) (null ∷ b) m v = cc
-same_cells (struct x ∷ a) (leaf y ∷ b) m v = cc
-same_cells (struct x ∷ a) (list y ∷ b) m v = cc
-same_cells (struct x ∷ a) (struct y ∷ b) m v = let h : struct x ≡ struct y = cc in let n : map is_value a ≡ map is_value b = cc in let w : values a ≡ values b = cc in ap (λ t. t ∷ a) h ∙ ap (λ t. struct y ∷ t) (same_cells a b n w)
-same_cells (null ∷ a) (pairs y ∷ b) m v = cc
-same_cells (leaf x ∷ a) (pairs y ∷ b) m v = cc
-same_cells (list x ∷ a) (pairs y ∷ b) m v = cc
-same_cells (struct x ∷ a) (pairs y ∷ b) m v = cc
-same_cells (pairs x ∷ a) (null ∷ b) m v = cc
-same_cells (pairs x ∷ a) (leaf y ∷ b) m v = cc
-same_cells (pairs x ∷ a) (list y ∷ b) m v = cc
-same_cells (pairs x ∷ a) (struct y ∷ b) m v = cc
-same_cells (pairs x ∷ a) (pairs y ∷ b) m v = let h : pairs x ≡ pairs y = cc in let n : map is_value a ≡ map is_value b = cc in let w : values a ≡ values b = cc in ap (λ t. t ∷ a) h ∙ ap (λ t. pairs y ∷ t) (same_cells a b n w)
 
 -- the cells in front, by their marks
 pub record CellsApart (all : List Cell) (marks more : List Bool) : Type 0 where
@@ -356,3 +318,11 @@ paired_leaves {X = X} {Y = Y} first first' second second' front p q =
           let b = same_pieces (map g c.front) (map g front) (map g c.back) j.0 (length-map c.front g ∙ c.counted ∙ sym (length-map front g)) (sym (map-append g c.front c.back) ∙ ap (map g) (sym c.parts) ∙ j.1) in
           (c.back, c.parts ∙ ap (λ t. t ++ c.back) (same_pairs c.front front a.front b.front), (subst first' (sym a.back) i.2, subst second' (sym b.back) j.2));
     }
+
+-- ---- one after the other
+
+-- of cells or pairs, where one more is lacking
+pub cells_lacking : {X : Type 0} (before between : List X → Type 0) (cells : List X) (n count : ℕ)
+    → length cells ≡ n → n < count → Leaves before between cells → Lacks between 1 → Lacks before count
+cells_lacking before between cells n count e lt p q =
+    lacks_more before (length cells + 1) count (omega (arith, e, lt)) (lacks_after before between cells 1 p q)

@@ -5,10 +5,10 @@ use Rattle.orc_rle.specs.declared.fault.RunFault.{RunFault}
 use Rattle.orc_column_reader.specs.declared.bits.Bits.{Bits}
 use Rattle.orc_column_reader.specs.declared.bytes.RunLengthBytes.{RunLengthBytes}
 use Rattle.orc_column_reader.specs.declared.column.ValueSource.{ValueSource}
-use Rattle.orc_column_reader.specs.declared.fault.StreamKind.{StreamKind}
-use Rattle.orc_column_reader.specs.declared.fault.StreamKind.TheVariants as stream
-use Rattle.orc_column_reader.specs.declared.fault.StripeFault.{StripeFault}
-use Rattle.orc_column_reader.specs.declared.fault.StripeFault.TheVariants as fault
+use Rattle.orc_directory.specs.declared.fault.StreamKind.{StreamKind}
+use Rattle.orc_directory.specs.declared.fault.StreamKind.TheVariants as stream
+use Rattle.orc_directory.specs.declared.fault.StripeFault.{StripeFault}
+use Rattle.orc_directory.specs.declared.fault.StripeFault.TheVariants as fault
 use Rattle.orc_column_reader.specs.declared.numbers.Numbers.{Numbers}
 use Rattle.orc_column_reader.specs.declared.octets.Octets.{Octets}
 use Rattle.orc_bits.specs.Packed.{bits, digits, packed_len}

@@ -1,14 +1,14 @@
 -- How many values and cells are needed, as they are read.
-use Rattle.std.proofs.Common.{◌≡◌, ℕ, zero, suc, ◌+◌, ◌≤◌, ℤ, pos, Bool, true, false, List, [], ◌∷◌, length, map, refl, sym, ap, ◌∙◌, subst, arith}
-use Rattle.orc_bits.specs.Packed.{digits}
+use Rattle.std.proofs.Common.{ℕ, zero, suc, ◌+◌, ◌≤◌, ℤ, pos, Bool, true, false, List, [], ◌∷◌, length, map, refl, sym, ap, ◌∙◌, subst, arith}
 use Rattle.orc_rle.specs.declared.fault.RunFault.{RunFault}
-use Rattle.orc_column_reader.specs.declared.fault.StreamKind.{StreamKind}
-use Rattle.orc_column_reader.specs.declared.fault.StripeFault.{StripeFault}
+use Rattle.orc_directory.specs.declared.fault.StreamKind.{StreamKind}
+use Rattle.orc_directory.specs.declared.fault.StripeFault.{StripeFault}
 use Rattle.orc_column_reader.specs.Faults.{RunsFail}
 use Rattle.orc_column_reader.specs.Fronts.{Precedes}
 use Rattle.orc_column_reader.specs.Needs.{MarksBegin, ValuesNeeded, ElementsNeeded}
 use Rattle.orc_column_reader.specs.RunFaults.{Needed, Always, Integers, IntegersFirst}
-use Rattle.orc_column_reader.proofs.FirstLemmas.{sum_more}
+use Rattle.orc_values.proofs.Lists.{sum_more}
+use Rattle.orc_column_reader.proofs.BitsLemmas.{no_digits}
 
 -- ---- one more is needed
 
@@ -100,10 +100,6 @@ pub elements_map : (all : Bool) (n e : ℕ) (one other : List ℤ → Type 0) �
 elements_map all n e one other p h = record { lengths = h.lengths; come_first = p (map pos h.lengths) h.come_first; known = h.known; counted = h.counted }
 
 -- ---- nothing comes first
-
-no_digits : digits 8 [] ≡ []
-unfolding digits
-no_digits = refl
 
 pub no_marks : (bytes : List ℕ) → MarksBegin bytes []
 no_marks [] = refl

@@ -4,9 +4,9 @@ use Rattle.orc_rle.specs.declared.fault.RunFault.{RunFault}
 use Rattle.std.proofs.Common.{Result, Ok, Err, ◌≡◌, ℕ, List, ◌++◌, length}
 use Rattle.orc_rle.specs.declared.sign.Sign.{Sign}
 use Rattle.orc_rle.specs.ByteRun.{IsByteRun}
-use Rattle.orc_rle.specs.ByteLaws.{one_byte_run, byte_run_some, byte_run_values}
-use Rattle.orc_rle.specs.OneLaws.{one_run, not_empty, has_values}
-use Rattle.orc_rle.specs.TwoLaws.{one_run_two, not_empty_two, some_values_two}
+use Rattle.orc_rle.proofs.ByteLaws.{one_byte_run, byte_run_some, byte_run_values}
+use Rattle.orc_rle.specs.laws.OneLaws.{one_run, not_empty, has_values}
+use Rattle.orc_rle.specs.laws.TwoLaws.{one_run_two, not_empty_two, some_values_two}
 use Rattle.orc_rle.specs.declared.sign.Rle.{Rle}
 use Rattle.orc_rle.specs.declared.sign.Rle.TheVariants.{One, Two}
 use Rattle.orc_column_reader.specs.Numbers.{is_run}

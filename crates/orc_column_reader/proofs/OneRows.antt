@@ -11,18 +11,20 @@ use Rattle.orc_rle.specs.declared.sign.Sign.{Sign}
 use Rattle.orc_rle.specs.declared.sign.Sign.TheVariants.{Signed, Unsigned}
 use Rattle.orc_rle.proofs.StreamLemmas.{one_stream}
 use Rattle.orc_rle.specs.declared.sign.Rle.{Rle}
-use Rattle.orc_column_reader.specs.Spellings.{Nullable, Standing, size, joined, Sized, Within, Paired, zip_cons, Fielded}
+use Rattle.orc_column_reader.specs.Spellings.{Nullable, Standing, size, concatenated, Sized, Within, Paired, zip_cons, Fielded}
 use Rattle.orc_column_reader.specs.Numbers.{is_run, AreNumbers}
 use Rattle.orc_column_reader.specs.Bytes.{AreBytes}
 use Rattle.orc_rle.specs.ByteRun.{IsByteRun}
-use Rattle.orc_rle.specs.ByteLaws.{one_byte_run, byte_run_some}
+use Rattle.orc_rle.proofs.ByteLaws.{one_byte_run, byte_run_some}
 use Rattle.orc_rle.specs.BitStream.{IsBitStream}
 use Rattle.orc_column_reader.specs.Columns.{IsBool, IsByte, IsInt, IsDate, IsText, IsBinary, IsEntry, IsList, IsMap, IsRecord}
-use Rattle.orc_column_reader.specs.Stripe.{Streams, version, Marks, Is, IsDictionary, SpellsScalar, SpellsTexts, SpellsInts, SpellsTree, SpellsFields, SpellsCells, has_dictionary, most_cells}
-use Rattle.orc_column_reader.proofs.Fronts.{same_pairs, length-zip, stand_length, one_standing, same_groups, joined_length, same_cells, length-values}
+use Rattle.orc_column_reader.specs.Stripe.{Streams, version, Marks, Is, IsDictionary, SpellsScalar, SpellsTexts, SpellsInts, SpellsTree, SpellsFields, SpellsCells, has_dictionary}
+use Rattle.orc_values.specs.Limits.{most_cells}
+use Rattle.orc_column_reader.proofs.Fronts.{same_pairs, length-zip, stand_length, one_standing, same_groups, joined_length, length-values}
 use Rattle.orc_column_reader.proofs.NumbersLemmas.{laws_of}
 use Rattle.orc_column_reader.proofs.BitsLemmas.{one_bit_stream}
 use Rattle.orc_column_reader.proofs.ReaderLemmas.{one_bool, one_byte, one_int, one_date, one_text, one_binary, one_word, one_list, one_map, one_record}
+use Rattle.orc_values.proofs.Together.{same_cells}
 
 abbrev pub One : {X : Type 0} → (List X → Type 0) → Type 0
 One {X = X} spelled = (a b : List X) → spelled a → spelled b → length a ≡ length b → a ≡ b
@@ -30,7 +32,7 @@ One {X = X} spelled = (a b : List X) → spelled a → spelled b → length a �
 one_numbers : (v : Rle) (sign : Sign) (bytes : List ℕ) → One (AreNumbers v sign bytes)
 one_numbers v sign bytes a b p q l = one_stream (is_run v sign) (laws_of v sign).one (laws_of v sign).some bytes a b p q
 
-one_marks : (bytes : List ℕ) → One (Marks bytes)
+pub one_marks : (bytes : List ℕ) → One (Marks bytes)
 one_marks [] a b p q l = p ∙ (rw l refl ∙ sym q)
 one_marks (x ∷ bytes) a b p q l = one_bit_stream (x ∷ bytes) a b l p q
 
@@ -47,8 +49,8 @@ one_standings stands spelled f one a b p q l =
 pub one_grouped : {X : Type 0} (sizes : List ℤ → Type 0) (elements : List X → Type 0) → One sizes → One elements → One (Sized sizes elements)
 one_grouped sizes elements s f a b p q l =
     let e = s (map size a) (map size b) p.0 q.0 (length-map a size ∙ l ∙ sym (length-map b size)) in
-    let j = f (joined a) (joined b) p.1 q.1 (joined_length a b e) in
-    (same_groups a b [] [] e (append-nil (joined a) ∙ j ∙ sym (append-nil (joined b)))).0
+    let j = f (concatenated a) (concatenated b) p.1 q.1 (joined_length a b e) in
+    (same_groups a b [] [] e (append-nil (concatenated a) ∙ j ∙ sym (append-nil (concatenated b)))).0
 
 pub one_fielded : {X : Type 0} (first : List X → Type 0) (others : List (List X) → Type 0) → One first → One others → ((h : List X) (t : List (List X)) → length h ≡ length t → length (zip_cons h t) ≡ length h) → One (Fielded first others)
 one_fielded first others f o z a b p q l =

@@ -1,11 +1,12 @@
 -- What the reader has still to give, by kinds.
 use Rattle.std.proofs.Common.{◌≡◌, ℕ, ◌≤◌, ℤ, pos, negsuc, Bool, true, false, List, [], ◌∷◌, map, length, refl, sym, ap, ◌∙◌, subst, arith, append-nil, length-append}
 use Rattle.std.specs.List.{AllByRecursion, AllZip}
-use Rattle.orc_values.specs.Cells.{Cell, null, leaf, text, is_value, values}
+use Rattle.orc_values.specs.Cells.{Cell, null, leaf, text, is_value}
 use Rattle.orc_column_reader.specs.Fronts.{Leaves, Lacks}
-use Rattle.orc_column_reader.specs.Spellings.{Nullable, Standing, size, joined, Sized}
+use Rattle.orc_column_reader.specs.Spellings.{Nullable, Standing, size, concatenated, Sized}
 use Rattle.orc_column_reader.specs.Columns.{IsBool, IsByte, IsInt, IsDate, IsText, IsBinary, IsEntry, IsList, IsMap, IsRecord}
 use Rattle.orc_column_reader.proofs.Fronts.{standing_leaves, none_stands, grouped_leaves, nullable_leaves, nullable_lacks_values, nothing}
+use Rattle.orc_values.proofs.Lists.{values_one}
 
 -- one value stands for one thing
 pub one_stands : {X : Type 0} (stands : X → Cell → Type 0) → ((x : X) (y z : Cell) → stands x y → stands x z → y ≡ z) → (before after : List X → Type 0) (x : X) (y : Cell)
@@ -67,7 +68,7 @@ group_lacks sizes sizes' elements k p q [] r le = omega (arith, le)
 group_lacks sizes sizes' elements k p q (g ∷ gs) r le =
     let i = p.only (size g ∷ map size gs) r.0 (omega arith) in
     let e : size g ≡ pos k = let h = i.1 in cc in
-    q (joined (g ∷ gs)) r.1 (omega (arith, size_is g k e, length-append g (joined gs)))
+    q (concatenated (g ∷ gs)) r.1 (omega (arith, size_is g k e, length-append g (concatenated gs)))
 
 pub no_size : {X : Type 0} (sizes sizes' : List ℤ → Type 0) (elements : List X → Type 0) (k : ℕ) → Leaves sizes sizes' (negsuc k ∷ []) → Lacks (Sized sizes elements) 1
 no_size sizes sizes' elements k p [] r le = omega (arith, le)
@@ -79,9 +80,6 @@ no_size sizes sizes' elements k p (g ∷ gs) r le =
 
 pub null_leaves : (marks marks' : List Bool → Type 0) (found : List Cell → Type 0) → Leaves marks marks' (false ∷ []) → Leaves (Nullable marks found) (Nullable marks' found) (null ∷ [])
 null_leaves marks marks' found p = nullable_leaves marks marks' found found (false ∷ []) [] (null ∷ []) refl refl p (nothing found)
-
-values_one : (c : Cell) → is_value c ≡ true → values (c ∷ []) ≡ c ∷ []
-values_one c h = rw h refl
 
 pub value_leaves : (marks marks' : List Bool → Type 0) (found found' : List Cell → Type 0) (c : Cell) → is_value c ≡ true → Leaves marks marks' (true ∷ []) → Leaves found found' (c ∷ []) → Leaves (Nullable marks found) (Nullable marks' found') (c ∷ [])
 value_leaves marks marks' found found' c h p q = nullable_leaves marks marks' found found' (true ∷ []) (c ∷ []) (c ∷ []) (ap (λ b. b ∷ []) h) (values_one c h) p q

@@ -3,6 +3,7 @@ use Rattle.std.proofs.Common.{get_or, ◌≡◌, ℕ, zero, suc, ◌+◌, ◌<�
 use Rattle.orc_rle.specs.Stream.{IsStream, RunsLeft}
 use Rattle.orc_rle.proofs.StreamLemmas.{runs_rest}
 use Rattle.orc_column_reader.specs.Fronts.{Leaves, Lacks}
+use Rattle.orc_values.proofs.Lists.{drop_twice}
 
 -- no run begins another, and each has bytes and values
 pub record RunLaws {A : Type 0} (is_run : List ℕ → List A → Type 0) : Type 0 where
@@ -32,15 +33,6 @@ taken is_run x pending rest = record {
   found = λ all r. (r.0, ap (λ t. x ∷ t) r.1, r.2);
   only = λ all r h. (pending ++ r.0, r.1, (r.0, refl, r.2));
 }
-
-drop_none : (n : ℕ) → drop n (let e : List ℕ = [] in e) ≡ []
-drop_none zero = refl
-drop_none (suc n) = refl
-
-pub drop_twice : (a b : ℕ) (xs : List ℕ) → drop b (drop a xs) ≡ drop (a + b) xs
-drop_twice zero b xs = let e : b ≡ 0 + b = omega arith in ap (λ n. drop n xs) e
-drop_twice (suc a) b [] = drop_none b ∙ sym (drop_none (suc a + b))
-drop_twice (suc a) b (x ∷ xs) = let e : suc (a + b) ≡ suc a + b = omega arith in drop_twice a b xs ∙ ap (λ n. drop n (x ∷ xs)) e
 
 pub past_end : {X : Type 0} (n : ℕ) (xs : List X) → length xs ≤ n → drop n xs ≡ []
 past_end zero [] h = refl

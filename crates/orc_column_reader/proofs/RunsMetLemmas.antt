@@ -5,7 +5,8 @@ use Rattle.orc_rle.specs.declared.fault.RunFault.{RunFault}
 use Rattle.orc_rle.specs.declared.fault.RunFault.TheVariants as run
 use Rattle.orc_rle.specs.Stream.{IsStream, StopsWithin, IsTooFew, IsNoRun, IsTooMany, at_place, RunsLeft}
 use Rattle.orc_column_reader.specs.RunsMet.{StopsThere, StopsLater, RunsMeet}
-use Rattle.orc_column_reader.proofs.RunsLemmas.{RunLaws, drop_twice, past_end, not_past_end, runs_ended}
+use Rattle.orc_column_reader.proofs.RunsLemmas.{RunLaws, past_end, not_past_end, runs_ended}
+use Rattle.orc_values.proofs.Lists.{drop_twice}
 
 nothing_read : {A : Type 0} (is_run : List ℕ → List A → Type 0) → IsStream is_run [] []
 nothing_read is_run = ([], (refl, refl))

@@ -1,5 +1,5 @@
 -- What a reader meets at the start of its streams is a fault of its streams.
-use Rattle.std.proofs.Common.{◌≡◌, ℕ, ℤ, pos, Bool, true, false, Option, Some, None, List, [], ◌∷◌, ◌-◌, ◌<◌, map, length, drop, sum, refl, sym, ap, ◌∙◌, subst, inl, inr, arith}
+use Rattle.std.proofs.Common.{◌≡◌, ℕ, ℤ, pos, Bool, true, false, Option, Some, None, List, [], ◌∷◌, ◌-◌, ◌<◌, map, length, drop, sum, refl, sym, ap, ◌∙◌, subst, inl, inr, arith, zero, suc, get_or}
 use Rattle.orc_values.specs.Fits.{int_fits, signed_fits}
 use Rattle.orc_values.specs.Shapes.{Shape, scalar, list_of, map_of, struct_of}
 use Rattle.orc_values.specs.declared.kind.Scalar.{Scalar}
@@ -11,10 +11,10 @@ use Rattle.orc_rle.specs.declared.sign.Sign.TheVariants.{Unsigned}
 use Rattle.orc_column_reader.specs.declared.bits.Bits.{Bits}
 use Rattle.orc_column_reader.specs.declared.entry.Entry.{Entry}
 use Rattle.orc_column_reader.specs.declared.column.ValueSource.{ValueSource}
-use Rattle.orc_column_reader.specs.declared.fault.StreamKind.{StreamKind}
-use Rattle.orc_column_reader.specs.declared.fault.StreamKind.TheVariants as stream
-use Rattle.orc_column_reader.specs.declared.fault.StripeFault.{StripeFault}
-use Rattle.orc_column_reader.specs.declared.fault.StripeFault.TheVariants as fault
+use Rattle.orc_directory.specs.declared.fault.StreamKind.{StreamKind}
+use Rattle.orc_directory.specs.declared.fault.StreamKind.TheVariants as stream
+use Rattle.orc_directory.specs.declared.fault.StripeFault.{StripeFault}
+use Rattle.orc_directory.specs.declared.fault.StripeFault.TheVariants as fault
 use Rattle.orc_column_reader.specs.declared.numbers.Numbers.{Numbers}
 use Rattle.orc_column_reader.specs.declared.octets.Octets.{Octets}
 use Rattle.orc_rle.specs.declared.sign.Rle.{Rle}
@@ -27,10 +27,11 @@ use Rattle.orc_column_reader.specs.Numbers.{is_run, NumbersFirst}
 use Rattle.orc_column_reader.specs.ReaderFaults.{Pass, IntsMeet, StringsMeet, TextMeets, IndexesMeet, TextsMeet, ScalarMeets, ListsMeet, ValuesMeet}
 use Rattle.orc_column_reader.specs.Needs.{MarksBegin}
 use Rattle.orc_column_reader.specs.RunFaults.{Always, Integers, IntegersFirst, IntegersFail, BoolsFail, no_run}
-use Rattle.orc_column_reader.specs.Runs.{RunsFirst, Begins}
+use Rattle.orc_column_reader.specs.Runs.{RunsFirst, RunsBegin}
 use Rattle.orc_column_reader.specs.Spellings.{size}
 use Rattle.orc_column_reader.specs.Starting.{NumbersStart, BytesStart, BitsStart, MarksStart, TextsStart, ScalarStart, SourceStart}
-use Rattle.orc_column_reader.specs.Stripe.{Streams, version, has_dictionary, IsDictionary, most_cells}
+use Rattle.orc_column_reader.specs.Stripe.{Streams, version, has_dictionary, IsDictionary, encoding_at}
+use Rattle.orc_values.specs.Limits.{most_cells}
 use Rattle.orc_column_reader.specs.ValueFaults.{NotAll, is_index, names_text}
 use Rattle.orc_column_reader.proofs.FirstLemmas.{first_begins, begin_lengths}
 use Rattle.orc_rle.specs.ByteRun.{IsByteRun, NoByteRun}
@@ -41,6 +42,7 @@ use Rattle.orc_column_reader.proofs.BitsLemmas.{no_digit}
 use Rattle.orc_column_reader.proofs.NeedLemmas.{runs_all}
 use Rattle.orc_column_reader.proofs.RunsMetLemmas.{met_start}
 use Rattle.orc_column_reader.proofs.StartLemmas.{numbers_alike}
+use Rattle.orc_wire.specs.declared.encoding.Encoding.{Encoding}
 
 abbrev pub integers_from : Rle → Sign → List ℕ → Integers
 integers_from version sign bytes = record { version = version; sign = sign; bytes = bytes }
@@ -94,7 +96,7 @@ marks_start (b ∷ bs) (Some bits) c m all n f s e h = bools_fail stream.Present
 
 -- ---- marks that come first
 
-bytes_begin : (bytes : List ℕ) (r : RunLengthBytes) (all : List ℕ) → BytesStart bytes r → BytesFirst r all → Begins IsByteRun bytes all
+bytes_begin : (bytes : List ℕ) (r : RunLengthBytes) (all : List ℕ) → BytesStart bytes r → BytesFirst r all → RunsBegin IsByteRun bytes all
 bytes_begin bytes r all s h =
     let pending : List ℕ = drop r.used r.run.values in
     let d : pending ≡ [] = ap (λ n. drop n r.run.values) s.unused ∙ s.no_run in
@@ -192,3 +194,8 @@ values_start (scalar k o) x r m all n f s e h = scalar_start k x r m all n f s e
 values_start (list_of t o) x r m all n f s e h = lists_start x r m all n f s.0 s.1 e h
 values_start (map_of k v o) x r m all n f s e h = lists_start x r m all n f s.0 s.1 e h
 values_start (struct_of fs o) x r m all n f s e h = h
+
+pub encoding_there : (es : List Encoding) (c : ℕ) (d : Encoding) → c < length es → encoding_at es c ≡ get_or es c d
+encoding_there [] c d h = absurd (omega (arith, h))
+encoding_there (e ∷ es) zero d h = refl
+encoding_there (e ∷ es) (suc c) d h = encoding_there es c d (omega (arith, h))

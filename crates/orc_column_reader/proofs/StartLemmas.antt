@@ -13,7 +13,7 @@ use Rattle.orc_column_reader.specs.declared.numbers.Numbers.{Numbers}
 use Rattle.orc_column_reader.specs.declared.entry.Entry.{Entry}
 use Rattle.orc_column_reader.specs.declared.column.ValueSource.{ValueSource}
 use Rattle.orc_column_reader.specs.declared.column.ColumnReader.{ColumnReader}
-use Rattle.orc_column_reader.specs.Spellings.{Nullable, Standing, size, joined, Sized, Within, Paired, Fielded}
+use Rattle.orc_column_reader.specs.Spellings.{Nullable, Standing, size, concatenated, Sized, Within, Paired, Fielded}
 use Rattle.orc_column_reader.specs.Numbers.{AreNumbers, NumbersLeft}
 use Rattle.orc_rle.specs.BitStream.{IsBitStream}
 use Rattle.orc_column_reader.specs.Bytes.{AreBytes, BytesLeft}
@@ -21,7 +21,8 @@ use Rattle.orc_column_reader.specs.Bits.{BitsLeft}
 use Rattle.orc_column_reader.proofs.BitsLemmas.{are_bits, held_bits}
 use Rattle.orc_column_reader.specs.Octets.{OctetsLeft}
 use Rattle.orc_column_reader.specs.Columns.{MarksLeft, StringsLeft, TextsLeft, ScalarLeft, ValuesLeft, FieldsLeft, CellsLeft, entry_bytes, IsBool, IsByte, IsInt, IsDate, IsText, IsBinary, IsEntry, IsList, IsMap, IsRecord}
-use Rattle.orc_column_reader.specs.Stripe.{Streams, version, has_dictionary, Marks, Is, IsDictionary, SpellsTexts, SpellsInts, SpellsScalar, SpellsTree, SpellsFields, SpellsCells, most_cells}
+use Rattle.orc_column_reader.specs.Stripe.{Streams, version, has_dictionary, Marks, Is, IsDictionary, SpellsTexts, SpellsInts, SpellsScalar, SpellsTree, SpellsFields, SpellsCells}
+use Rattle.orc_values.specs.Limits.{most_cells}
 use Rattle.orc_column_reader.specs.Starting.{NumbersStart, BytesStart, BitsStart, MarksStart, StringsStart, TextsStart, ScalarStart, TreeStart, FieldsStart}
 use Rattle.std.specs.declared.vec.Vec.{Vec}
 use Rattle.std.specs.declared.alloc.Global.{Global}
@@ -36,7 +37,7 @@ standing_alike : {X Y : Type 0} (stands : X → Y → Type 0) (a b : List X → 
 standing_alike stands a b p = record { to = λ xs r. (r.0, r.1, p.to r.0 r.2); from = λ xs r. (r.0, r.1, p.from r.0 r.2) }
 
 grouped_alike : {X : Type 0} (a b : List ℤ → Type 0) (c d : List X → Type 0) → Alike a b → Alike c d → Alike (Sized a c) (Sized b d)
-grouped_alike a b c d p q = record { to = λ xs r. (p.to (map size xs) r.0, q.to (joined xs) r.1); from = λ xs r. (p.from (map size xs) r.0, q.from (joined xs) r.1) }
+grouped_alike a b c d p q = record { to = λ xs r. (p.to (map size xs) r.0, q.to (concatenated xs) r.1); from = λ xs r. (p.from (map size xs) r.0, q.from (concatenated xs) r.1) }
 
 nullable_alike : (a b : List Bool → Type 0) (c d : List Cell → Type 0) → Alike a b → Alike c d → Alike (Nullable a c) (Nullable b d)
 nullable_alike a b c d p q = record { to = λ xs r. (p.to (map is_value xs) r.0, q.to (values xs) r.1); from = λ xs r. (p.from (map is_value xs) r.0, q.from (values xs) r.1) }

@@ -5,10 +5,10 @@ use Rattle.std.proofs.lemmas.Str.{is_utf8-from_IsUtf8, IsUtf8-from_is_utf8}
 use Rattle.std.specs.Borrow.{Bor}
 use Rattle.std.specs.Result.{MatchResult, result_ok}
 use Rattle.std.specs.Str.{IsUtf8, is_utf8}
-use Rattle.orc_column_reader.specs.Texts.{text_of}
+use Rattle.orc_column_reader.specs.Texts.{utf8_text}
 use Rattle.orc_column_reader.specs.declared.entry.Entry.{Entry}
 
-pub text_read : {E : Type 0} (P : E → Type 0) (r : Result (Bor (List ℕ)) E) (bs : List ℕ) → MatchResult r (λ s. (s.now ≡ bs) × IsUtf8 bs) (λ e. ¬ (IsUtf8 bs) × P e) → option_map (λ t. t.now) (result_ok r) ≡ text_of bs
+pub text_read : {E : Type 0} (P : E → Type 0) (r : Result (Bor (List ℕ)) E) (bs : List ℕ) → MatchResult r (λ s. (s.now ≡ bs) × IsUtf8 bs) (λ e. ¬ (IsUtf8 bs) × P e) → option_map (λ t. t.now) (result_ok r) ≡ utf8_text bs
 text_read P (Ok s) bs h = rw (is_utf8-from_IsUtf8 bs h.1) (ap Some h.0)
 text_read P (Err e) bs h = rw (false_from_ne_true (is_utf8 bs) (λ t. h.0 (IsUtf8-from_is_utf8 bs t))) refl
 

@@ -9,14 +9,15 @@ use Rattle.orc_values.specs.declared.kind.Scalar.TheVariants as kind
 use Rattle.orc_rle.specs.declared.fault.RunFault.{RunFault}
 use Rattle.orc_rle.specs.declared.fault.RunFault.TheVariants as run
 use Rattle.orc_rle.specs.declared.sign.Sign.TheVariants.{Signed, Unsigned}
-use Rattle.orc_column_reader.specs.declared.fault.StreamKind.{StreamKind}
-use Rattle.orc_column_reader.specs.declared.fault.StreamKind.TheVariants as stream
-use Rattle.orc_column_reader.specs.declared.fault.StripeFault.{StripeFault}
-use Rattle.orc_column_reader.specs.declared.fault.StripeFault.TheVariants as fault
+use Rattle.orc_directory.specs.declared.fault.StreamKind.{StreamKind}
+use Rattle.orc_directory.specs.declared.fault.StreamKind.TheVariants as stream
+use Rattle.orc_directory.specs.declared.fault.StripeFault.{StripeFault}
+use Rattle.orc_directory.specs.declared.fault.StripeFault.TheVariants as fault
 use Rattle.orc_column_reader.specs.Needs.{MarksBegin, ValuesNeeded, ElementsNeeded}
 use Rattle.orc_column_reader.specs.RunFaults.{Integers, IntegersFirst, IntegersFail, ByteRunsFail, BoolsFail}
 use Rattle.orc_column_reader.specs.ValueFaults.{NotAll, is_index, names_text, CutsNoText, PassTogether, HasOtherLength}
-use Rattle.orc_column_reader.specs.Stripe.{Streams, version, has_dictionary, IsDictionary, SpellRows, cell_limit, most_cells, in_present, in_data, in_length, in_dictionary}
+use Rattle.orc_column_reader.specs.Stripe.{Streams, version, has_dictionary, IsDictionary, SpellRows, in_present, in_data, in_length, in_dictionary}
+use Rattle.orc_values.specs.Limits.{cell_limit, most_cells}
 
 -- the column's stream of this kind has no runs as the column needs them; what stands of the fault of its runs
 abbrev pub RunsFail : StreamKind → ℕ → (RunFault → Type 0) → StripeFault → Type 0

@@ -7,9 +7,7 @@ pub mod Bits
 pub mod Octets
 pub mod Texts
 pub mod Columns
-pub mod Directory
 pub mod Stripe
-pub mod Located
 pub mod Starting
 pub mod RunFaults
 pub mod Needs

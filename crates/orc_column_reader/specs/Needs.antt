@@ -5,14 +5,14 @@ use Rattle.std.specs.Prelude.{◌≡◌, ℕ, suc, ℤ, pos, Bool, true, false, 
 use Rattle.orc_bits.specs.Packed.{digits}
 use Rattle.orc_rle.specs.BitStream.{digit}
 use Rattle.orc_rle.specs.ByteRun.{IsByteRun}
-use Rattle.orc_column_reader.specs.Runs.{Begins}
+use Rattle.orc_column_reader.specs.Runs.{RunsBegin}
 use Rattle.orc_column_reader.specs.RunFaults.{Needed}
 use Rattle.orc_values.specs.Trues.{trues}
 
 -- booleans that come first in runs of their bytes
 pub record BoolsBegin (bytes : List ℕ) (bools : List Bool) : Type 0 where
   pub packed : List ℕ
-  pub runs : Begins IsByteRun bytes packed
+  pub runs : RunsBegin IsByteRun bytes packed
   pub more : List ℕ
   pub digits_are : digits 8 packed ≡ map digit bools ++ more
 

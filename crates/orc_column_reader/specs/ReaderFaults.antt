@@ -10,10 +10,10 @@ use Rattle.std.specs.declared.alloc.Global.{Global}
 use Rattle.orc_column_reader.specs.declared.entry.Entry.{Entry}
 use Rattle.orc_column_reader.specs.declared.column.ValueSource.{ValueSource}
 use Rattle.orc_column_reader.specs.declared.column.ColumnReader.{ColumnReader}
-use Rattle.orc_column_reader.specs.declared.fault.StreamKind.{StreamKind}
-use Rattle.orc_column_reader.specs.declared.fault.StreamKind.TheVariants as stream
-use Rattle.orc_column_reader.specs.declared.fault.StripeFault.{StripeFault}
-use Rattle.orc_column_reader.specs.declared.fault.StripeFault.TheVariants as fault
+use Rattle.orc_directory.specs.declared.fault.StreamKind.{StreamKind}
+use Rattle.orc_directory.specs.declared.fault.StreamKind.TheVariants as stream
+use Rattle.orc_directory.specs.declared.fault.StripeFault.{StripeFault}
+use Rattle.orc_directory.specs.declared.fault.StripeFault.TheVariants as fault
 use Rattle.orc_column_reader.specs.declared.numbers.Numbers.{Numbers}
 use Rattle.orc_column_reader.specs.declared.octets.Octets.{Octets}
 use Rattle.orc_column_reader.specs.Columns.{entry_bytes, MarksFirst}

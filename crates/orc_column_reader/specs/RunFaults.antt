@@ -10,7 +10,7 @@ use Rattle.orc_rle.specs.Stream.{StopsWithin}
 use Rattle.orc_rle.specs.declared.sign.Rle.{Rle}
 use Rattle.orc_rle.specs.declared.sign.Rle.TheVariants.{One, Two}
 use Rattle.orc_column_reader.specs.Numbers.{is_run, AreNumbers}
-use Rattle.orc_column_reader.specs.Runs.{Begins}
+use Rattle.orc_column_reader.specs.Runs.{RunsBegin}
 
 -- the fault of bytes that have no run of that version in front
 abbrev pub no_run : Rle → Sign → List ℕ → RunFault → Type 0
@@ -40,12 +40,12 @@ pub record Integers : Type 0 where
   pub bytes : List ℕ
 
 -- the integers that its bytes spell, and those that come first in them
-abbrev pub AreIntegers : Integers → List ℤ → Type 0
-AreIntegers from all = AreNumbers from.version from.sign from.bytes all
+abbrev pub AreIntegersOf : Integers → List ℤ → Type 0
+AreIntegersOf from all = AreNumbers from.version from.sign from.bytes all
 
 -- integers that the stream's first runs spell
 abbrev pub IntegersFirst : Integers → List ℤ → Type 0
-IntegersFirst from all = Begins (is_run from.version from.sign) from.bytes all
+IntegersFirst from all = RunsBegin (is_run from.version from.sign) from.bytes all
 
 -- why bytes aren't a stream of so many integers
 abbrev pub IntegersFail : Integers → Bool → ℕ → RunFault → Type 0

@@ -3,8 +3,8 @@ use Rattle.std.specs.Prelude.{◌≡◌, ℕ, List, ◌++◌}
 use Rattle.orc_rle.specs.Stream.{IsStream, RunsLeft}
 
 -- the values come first in the bytes, in whole runs, whatever follows
-abbrev pub Begins : {A : Type 0} → (List ℕ → List A → Type 0) → List ℕ → List A → Type 0
-Begins {A = A} is_run bytes values =
+abbrev pub RunsBegin : {A : Type 0} → (List ℕ → List A → Type 0) → List ℕ → List A → Type 0
+RunsBegin {A = A} is_run bytes values =
     (front : List ℕ) × (back : List ℕ) × (more : List A)
     × (bytes ≡ front ++ back)
     × IsStream is_run front (values ++ more)

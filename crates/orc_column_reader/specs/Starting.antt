@@ -17,7 +17,8 @@ use Rattle.orc_column_reader.specs.declared.column.ColumnReader.{ColumnReader}
 use Rattle.orc_column_reader.specs.declared.starting.ColumnStreams.{ColumnStreams}
 use Rattle.orc_wire.specs.declared.stripe_footer.StripeFooter.{StripeFooter}
 use Rattle.orc_column_reader.specs.Columns.{entry_bytes}
-use Rattle.orc_column_reader.specs.Stripe.{Streams, version, has_dictionary, IsDictionary, most_cells, columns_of, columns_from, in_present, in_data, in_length, in_dictionary}
+use Rattle.orc_column_reader.specs.Stripe.{Streams, version, has_dictionary, IsDictionary, columns_of, columns_from, in_present, in_data, in_length, in_dictionary}
+use Rattle.orc_values.specs.Limits.{most_cells}
 
 -- a reader of integers at the start of its bytes
 pub record NumbersStart (v : Rle) (sign : Sign) (bytes : List ℕ) (r : Numbers) : Type 0 where
@@ -136,32 +137,32 @@ abbrev pub IsOf : Shape → (ℕ → Streams) → ℕ → ColumnReader → Type 
 IsOf s columns n own = OwnStart s (columns n) own × (own.source.column ≡ n)
 
 -- readers from a column on: its own, and those below it
-abbrev pub AreFrom : (ℕ → List ColumnReader → Type 0) → Shape → (ℕ → Streams) → ℕ → List ColumnReader → Type 0
-AreFrom found s columns n [] = ⊥
-AreFrom found s columns n (own ∷ below) = IsOf s columns n own × found n below
+abbrev pub AreReadersFrom : (ℕ → List ColumnReader → Type 0) → Shape → (ℕ → Streams) → ℕ → List ColumnReader → Type 0
+AreReadersFrom found s columns n [] = ⊥
+AreReadersFrom found s columns n (own ∷ below) = IsOf s columns n own × found n below
 
 abbrev mutual
-  pub AreBelow : Shape → (ℕ → Streams) → ℕ → List ColumnReader → Type 0
-  AreBelow (scalar k o) columns n below = Unit {0}
-  AreBelow (list_of s o) columns n below = AreFrom (AreBelow s columns) s columns (suc n) below
-  AreBelow (map_of k v o) columns n below =
-      AreFrom (AreBelow k columns) k columns (suc n) (take (width k) below)
-      × AreFrom (AreBelow v columns) v columns (suc n + width k) (drop (width k) below)
-  AreBelow (struct_of fs o) columns n below = AreFields fs columns (suc n) below
+  pub AreReadersBelow : Shape → (ℕ → Streams) → ℕ → List ColumnReader → Type 0
+  AreReadersBelow (scalar k o) columns n below = Unit {0}
+  AreReadersBelow (list_of s o) columns n below = AreReadersFrom (AreReadersBelow s columns) s columns (suc n) below
+  AreReadersBelow (map_of k v o) columns n below =
+      AreReadersFrom (AreReadersBelow k columns) k columns (suc n) (take (width k) below)
+      × AreReadersFrom (AreReadersBelow v columns) v columns (suc n + width k) (drop (width k) below)
+  AreReadersBelow (struct_of fs o) columns n below = AreFieldReaders fs columns (suc n) below
 
-  pub AreFields : Fields → (ℕ → Streams) → ℕ → List ColumnReader → Type 0
-  AreFields no_field columns n readers = Unit {0}
-  AreFields (field name s fs) columns n readers =
-      AreFrom (AreBelow s columns) s columns n (take (width s) readers)
-      × AreFields fs columns (n + width s) (drop (width s) readers)
+  pub AreFieldReaders : Fields → (ℕ → Streams) → ℕ → List ColumnReader → Type 0
+  AreFieldReaders no_field columns n readers = Unit {0}
+  AreFieldReaders (field name s fs) columns n readers =
+      AreReadersFrom (AreReadersBelow s columns) s columns n (take (width s) readers)
+      × AreFieldReaders fs columns (n + width s) (drop (width s) readers)
 
 -- the readers of a column and of those below it, by the columns' numbers
 abbrev pub AreOf : Shape → (ℕ → Streams) → ℕ → List ColumnReader → Type 0
-AreOf s columns n readers = AreFrom (AreBelow s columns) s columns n readers
+AreOf s columns n readers = AreReadersFrom (AreReadersBelow s columns) s columns n readers
 
 -- the readers of a column and of those below it stand behind the old ones;
 -- the column's number is the number of the old ones
-pub record Puts (footer : StripeFooter) (bytes : List ℕ) (s : Shape) (old new : List ColumnReader) : Type 0 where
+pub record PutsReaders (footer : StripeFooter) (bytes : List ℕ) (s : Shape) (old new : List ColumnReader) : Type 0 where
   pub more : List ColumnReader
   pub parts : new ≡ old ++ more
   pub counted : length more ≡ width s
@@ -175,4 +176,4 @@ pub record PutsFields (footer : StripeFooter) (bytes : List ℕ) (fs : Fields)
   pub parts : new ≡ old ++ more
   pub counted : length more ≡ widths fs
   pub start : FieldsStart fs (columns_from footer bytes (length old)) more
-  pub origins : AreFields fs (columns_of footer bytes) (length old) more
+  pub origins : AreFieldReaders fs (columns_of footer bytes) (length old) more

@@ -1,5 +1,5 @@
 -- Bytes that are a stripe of rows (ORC specification, "Stripes", "Column Encodings").
-use Rattle.std.specs.Prelude.{◌≡◌, ℕ, zero, suc, ◌+◌, ◌-◌, ◌<◌, ◌^◌, ◌||◌, ◌==◌, nat_lt, if◌then◌else◌, Bool, true, false, None, List, [], ◌∷◌, length, replicate, map, drop, ℤ}
+use Rattle.std.specs.Prelude.{◌≡◌, ℕ, zero, suc, ◌+◌, ◌<◌, nat_lt, if◌then◌else◌, Bool, true, false, None, List, [], ◌∷◌, length, replicate, map, drop, ℤ}
 use Rattle.std.specs.List.{AllByRecursion}
 use Rattle.orc_values.specs.Cells.{Cell, is_value, parts, pairs_in, values}
 use Rattle.orc_values.specs.Shapes.{Shape, scalar, list_of, map_of, struct_of, Fields, no_field, field, width, shape_at}
@@ -23,7 +23,8 @@ use Rattle.orc_column_reader.specs.Numbers.{AreNumbers}
 use Rattle.orc_column_reader.specs.Bytes.{AreBytes}
 use Rattle.orc_rle.specs.BitStream.{IsBitStream}
 use Rattle.orc_column_reader.specs.Columns.{IsBool, IsByte, IsInt, IsDate, IsText, IsBinary, IsEntry, IsList, IsMap, IsRecord}
-use Rattle.orc_column_reader.specs.Directory.{slice, is_directory, first_wrong}
+use Rattle.orc_directory.specs.Directory.{slice, is_directory, first_wrong}
+use Rattle.orc_values.specs.Limits.{cell_limit, most_cells}
 
 -- what a column's cells are read from: its encoding, and the bytes of its stream of each kind
 pub record Streams : Type 0 where
@@ -118,14 +119,6 @@ SpellsValues (scalar k o) s vs = SpellsScalar k s vs
 SpellsValues (list_of e o) s vs = AreLengths s (map (λ v. size (parts v)) vs)
 SpellsValues (map_of k v o) s vs = AreLengths s (map (λ m. size (pairs_in m)) vs)
 SpellsValues (struct_of fs o) s vs = Unit {0}
-
--- a column of a stripe has fewer cells than this
-abbrev pub cell_limit : ℕ
-cell_limit = 2 ^ 31
-
--- the most that it may have
-abbrev pub most_cells : ℕ
-most_cells = cell_limit - 1
 
 -- the streams of a column spell its cells
 pub record IsColumn (shape : Shape) (s : Streams) (column : List Cell) : Type 0 where

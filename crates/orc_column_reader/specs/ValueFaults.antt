@@ -3,8 +3,8 @@
 use Rattle.std.specs.Prelude.{◌≡◌, ℕ, ◌<◌, ℤ, pos, negsuc, nat_lt, Bool, true, false, Option, Some, None, List, ◌++◌, length, map, sum, slice_get, ◌⊎◌}
 use Rattle.std.specs.List.{AllByRecursion}
 use Rattle.std.specs.Str.{is_utf8}
-use Rattle.orc_column_reader.specs.RunFaults.{Integers, AreIntegers, IntegersFirst}
-use Rattle.orc_column_reader.specs.Spellings.{size, joined}
+use Rattle.orc_column_reader.specs.RunFaults.{Integers, AreIntegersOf, IntegersFirst}
+use Rattle.orc_column_reader.specs.Spellings.{size, concatenated}
 
 -- one of those that come first doesn't pass
 abbrev pub NotAll : (ℤ → Bool) → (List ℤ → Type 0) → Type 0
@@ -30,7 +30,7 @@ abbrev pub CutsNoText : (List ℤ → Type 0) → List ℕ → Type 0
 CutsNoText first bytes =
     (byte_strings : List (List ℕ)) × (rest : List ℕ)
     × first (map size byte_strings)
-    × (bytes ≡ joined byte_strings ++ rest)
+    × (bytes ≡ concatenated byte_strings ++ rest)
     × (AllByRecursion (λ g. is_utf8 g ≡ true) byte_strings → ⊥)
 
 -- the lengths that come first are more than this together
@@ -44,4 +44,4 @@ StayBelow all count = (lengths : List ℕ) × all (map pos lengths) × (sum leng
 -- the bytes are fewer than the lengths say, or more
 abbrev pub HasOtherLength : Integers → List ℕ → Type 0
 HasOtherLength lengths bytes =
-    PassTogether (IntegersFirst lengths) (length bytes) ⊎ StayBelow (AreIntegers lengths) (length bytes)
+    PassTogether (IntegersFirst lengths) (length bytes) ⊎ StayBelow (AreIntegersOf lengths) (length bytes)

@@ -9,14 +9,14 @@ ghost use Rattle.orc_column_reader.specs.Octets.{OctetsLeft};
 ghost use Rattle.orc_column_reader.specs.Spellings.{Standing, Sized};
 ghost use Rattle.orc_column_reader.specs.Columns.{IsText, IsBinary};
 ghost use Rattle.orc_column_reader.specs.ReaderFaults.{StringsMeet, TextMeets};
-ghost use Rattle.orc_column_reader.specs.declared.fault.StripeFault.TheVariants as fault;
-ghost use Rattle.orc_column_reader.specs.declared.fault.StreamKind.TheVariants as stream;
-ghost use Rattle.orc_column_reader.specs.declared.fault.StripeFault.{StripeFault as Fault};
+ghost use Rattle.orc_directory.specs.declared.fault.StripeFault.TheVariants as fault;
+ghost use Rattle.orc_directory.specs.declared.fault.StreamKind.TheVariants as stream;
+ghost use Rattle.orc_directory.specs.declared.fault.StripeFault.{StripeFault as Fault};
 
-use crate::fault::{StreamKind, StripeFault, run_fault};
 use crate::numbers::{Numbers, numbers_end, numbers_left};
 use crate::octets::{Octets, octets_end};
 use crate::whole_numbers::next_number;
+use orc_directory::{StreamKind, StripeFault, run_fault};
 use orc_values::Own;
 
 /// The next byte string, its size from LENGTH.

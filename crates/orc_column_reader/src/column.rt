@@ -13,29 +13,23 @@ ghost use Rattle.orc_column_reader.specs.RunsMet.{NumbersMeet, BitsMeet, MarksMe
 ghost use Rattle.orc_column_reader.specs.Faults.{RunsFail};
 ghost use Rattle.orc_column_reader.specs.RunFaults.{Always};
 ghost use Rattle.orc_column_reader.specs.ReaderFaults.{PresentMeets, ScalarMeets, ListsMeet};
-ghost use Rattle.orc_column_reader.specs.declared.fault.StripeFault.TheVariants as fault;
-ghost use Rattle.orc_column_reader.specs.declared.fault.StreamKind.TheVariants as stream;
+ghost use Rattle.orc_directory.specs.declared.fault.StripeFault.TheVariants as fault;
+ghost use Rattle.orc_directory.specs.declared.fault.StreamKind.TheVariants as stream;
 ghost use Rattle.orc_column_reader.specs.declared.column.ColumnReader.{ColumnReader as Reader};
 ghost use Rattle.orc_rle.specs.declared.fault.RunFault.{RunFault as RunsFault};
-ghost use Rattle.orc_column_reader.specs.declared.fault.StripeFault.{StripeFault as Fault};
+ghost use Rattle.orc_directory.specs.declared.fault.StripeFault.{StripeFault as Fault};
 
 use crate::bits::{Bits, bits_end, bits_left};
 use crate::byte_strings::{next_binary, next_text, strings_end, strings_left};
 use crate::bytes::{RunLengthBytes, bytes_end, bytes_left};
 use crate::dictionary::next_entry;
 pub use crate::entry::Entry;
-use crate::fault::{StreamKind, StripeFault, run_fault};
 use crate::marks::next_mark;
 use crate::numbers::{Numbers, numbers_end, numbers_left};
 use crate::octets::Octets;
 use crate::whole_numbers::{next_byte, next_date, next_int, next_long, next_number};
+use orc_directory::{StreamKind, StripeFault, run_fault};
 use orc_values::{Own, Scalar};
-
-/// A column of a stripe has fewer cells than this.
-pub const CELL_LIMIT: u64 = 1 << 31;
-
-/// The most cells that a column of a stripe may have.
-pub const MOST_CELLS: u64 = CELL_LIMIT - 1;
 
 /// What is left of the streams of a column beside PRESENT. Each kind of column uses some of them.
 #[derive(Drop)]

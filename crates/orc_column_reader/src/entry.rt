@@ -2,7 +2,7 @@
 
 ghost use Rattle.std.specs.Prelude.{◌≡◌, option_map};
 ghost use Rattle.std.proofs.Props.{props};
-ghost use Rattle.orc_column_reader.specs.Texts.{text_of};
+ghost use Rattle.orc_column_reader.specs.Texts.{utf8_text};
 
 /// An entry of a dictionary.
 #[derive(Clone, Copy)]
@@ -11,12 +11,12 @@ pub struct Entry<'a> {
     // the text that the bytes are, if they are UTF-8: one test of them, however many cells name the
     // entry
     pub(crate) text: Option<&'a str>,
-    ghost text_is: { option_map (λ t. t.now) text ≡ text_of bytes.now } by { Prim.hlevel props },
+    ghost text_is: { option_map (λ t. t.now) text ≡ utf8_text bytes.now } by { Prim.hlevel props },
 }
 
 /// The text that bytes are, if they are UTF-8.
 fn text_of<'a>(bytes: &'a [u8]) -> Option<&'a str>
-    ensures { option_map (λ t. t.now) result ≡ text_of bytes.now }
+    ensures { option_map (λ t. t.now) result ≡ utf8_text bytes.now }
 {
     std::str::from_utf8(bytes).ok()
 }

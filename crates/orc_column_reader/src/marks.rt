@@ -6,13 +6,13 @@ ghost use Rattle.orc_column_reader.specs.Columns.{MarksLeft, MarksFirst};
 ghost use Rattle.orc_column_reader.specs.RunsMet.{MarksMeet};
 ghost use Rattle.orc_column_reader.specs.Faults.{RunsFail};
 ghost use Rattle.orc_column_reader.specs.Starting.{MarksStart};
-ghost use Rattle.orc_column_reader.specs.declared.fault.StripeFault.TheVariants as fault;
-ghost use Rattle.orc_column_reader.specs.declared.fault.StreamKind.TheVariants as stream;
+ghost use Rattle.orc_directory.specs.declared.fault.StripeFault.TheVariants as fault;
+ghost use Rattle.orc_directory.specs.declared.fault.StreamKind.TheVariants as stream;
 ghost use Rattle.orc_rle.specs.declared.fault.RunFault.TheVariants as run;
 ghost use Rattle.orc_rle.specs.declared.fault.RunFault.{RunFault as RunsFault};
 
 use crate::bits::{Bits, bits_end, bits_left, bits_of};
-use crate::fault::{StreamKind, StripeFault, run_fault};
+use orc_directory::{StreamKind, StripeFault, run_fault};
 use orc_rle::RunFault;
 
 /// Which cells are not null, from the first.

@@ -1,27 +1,25 @@
-//! Readers of columns at the start of their streams, by a column's kind and encoding, and down the schema's tree.
+//! Readers of columns at the start of their streams, by a column's kind and encoding.
 
-ghost use Rattle.std.specs.Prelude.{◌≡◌, ◌≢◌, ◌<◌, ◌≤◌, ◌+◌, ℕ, true, false, None, List, length, IfOk, IfErr, OnOk};
-ghost use Rattle.orc_values.specs.Cells.{Cell};
-ghost use Rattle.orc_values.specs.Shapes.{width, widths};
-ghost use Rattle.orc_values.specs.Views.{shape, fields as fields_view};
-ghost use Rattle.orc_column_reader.specs.Faults.{StringsFail, EntriesFail, ScalarEntriesFail, DictionaryFails, FaultDown, FaultWithin, lengths_of};
-ghost use Rattle.orc_column_reader.specs.Located.{AreLocated};
-ghost use Rattle.orc_column_reader.specs.Starting.{DataStart, StringsStart, TextsStart, ScalarStart, SourceStart, OwnStart, LacksEntries, ScalarLacks, HasNoDictionary, AreStreams, Puts, PutsFields};
-ghost use Rattle.orc_column_reader.specs.Stripe.{Streams, IsDictionary, encoding_at, columns_of, columns_from, SpellsCells, SpellsFields, most_cells, in_dictionary};
-ghost use Rattle.orc_column_reader.specs.declared.fault.StripeFault.TheVariants.{OutOfMemory};
-ghost use Rattle.orc_column_reader.specs.declared.fault.StreamKind.TheVariants.{DictionaryData};
+ghost use Rattle.std.specs.Prelude.{◌≡◌, ◌≢◌, ◌<◌, ℕ, true, None, List, length, IfOk, IfErr};
+ghost use Rattle.orc_values.specs.Views.{shape};
+ghost use Rattle.orc_column_reader.specs.Faults.{StringsFail, EntriesFail, ScalarEntriesFail, DictionaryFails, lengths_of};
+ghost use Rattle.orc_directory.specs.Located.{AreLocated};
+ghost use Rattle.orc_column_reader.specs.Starting.{DataStart, StringsStart, TextsStart, ScalarStart, SourceStart, OwnStart, LacksEntries, ScalarLacks, HasNoDictionary, AreStreams};
+ghost use Rattle.orc_column_reader.specs.Stripe.{Streams, IsDictionary, encoding_at, columns_of, in_dictionary};
+ghost use Rattle.orc_values.specs.Limits.{most_cells};
+ghost use Rattle.orc_directory.specs.declared.fault.StripeFault.TheVariants.{OutOfMemory};
+ghost use Rattle.orc_directory.specs.declared.fault.StreamKind.TheVariants.{DictionaryData};
 
 use crate::bits::bits_of;
 use crate::bytes::bytes_of;
 use crate::column::{ColumnReader, ValueSource};
 use crate::dictionary::entries_of;
-use crate::fault::StripeFault;
-use crate::located::Located;
 use crate::marks::marks_of;
 use crate::numbers::numbers_of;
 use crate::version::version_of;
+use orc_directory::{Located, StripeFault};
 use orc_rle::{Rle, Sign};
-use orc_values::{Field, Scalar, Tree};
+use orc_values::{Scalar, Tree};
 use orc_wire::{DATA, DICTIONARY_DATA, Encoding, LENGTH, PRESENT, StripeFooter};
 use std::alloc::Global;
 
@@ -228,73 +226,4 @@ pub fn reader_of<'a>(
     let streams = streams_of(column, footer, located);
     let source = source_of(alloc, tree, column, &streams)?;
     Ok(ColumnReader::of(marks_of(streams.present), source))
-}
-
-/// The readers of a column and of those below it, at the end of those of the columns before.
-#[cycle(starting)]
-pub fn put_tree<'a>(
-    alloc: Global,
-    tree: &Tree,
-    footer: &StripeFooter,
-    located: &Located<'a>,
-    readers: &mut Vec<ColumnReader<'a>>,
-) -> Result<(), StripeFault>
-    requires there { length readers.old.items + width (shape tree.now) ≤ length footer.now.columns }
-    requires located { AreLocated (length footer.now.columns) footer.now.streams
-        located.now.bytes.now located.now.slices.items }
-    // Where the directory's streams are located, readers of the column and of those below it come
-    // behind those before, each at the start of its streams, with its column's number.
-    ensures found { OnOk result (Puts footer.now located.now.bytes.now
-        (shape tree.now) readers.old.items readers.new.items) }
-    // A refusal other than want of memory stands: the streams spell no cells of the type, and the
-    // fault is one of these columns, however many cells are wanted.
-    ensures none { IfErr result (λ fault. fault ≢ OutOfMemory → (cells : List Cell)
-        → SpellsCells (shape tree.now) (columns_from footer.now located.now.bytes.now (length readers.old.items)) cells
-        → ⊥) }
-    ensures fault { IfErr result (λ cause. cause ≢ OutOfMemory
-        → (count : ℕ) → FaultDown (shape tree.now) (columns_of footer.now located.now.bytes.now)
-        (length readers.old.items) false count cause) }
-{
-    let own = reader_of(alloc, tree, readers.len(), footer, located)?;
-    readers.push(own)?;
-    match tree {
-        Tree::Scalar(_, _) => Ok(()),
-        Tree::List(element, _) => put_tree(alloc, element, footer, located, readers),
-        Tree::Map(key, value, _) => {
-            put_tree(alloc, key, footer, located, readers)?;
-            put_tree(alloc, value, footer, located, readers)
-        }
-        Tree::Struct(fields, _) => put_fields(alloc, fields, footer, located, readers),
-    }
-}
-
-/// The readers of the fields' columns, at the end of those of the columns before.
-#[cycle(starting)]
-fn put_fields<'a>(
-    alloc: Global,
-    fields: &[Field],
-    footer: &StripeFooter,
-    located: &Located<'a>,
-    readers: &mut Vec<ColumnReader<'a>>,
-) -> Result<(), StripeFault>
-    requires there { length readers.old.items + widths (fields_view fields.now) ≤ length footer.now.columns }
-    requires located { AreLocated (length footer.now.columns) footer.now.streams
-        located.now.bytes.now located.now.slices.items }
-    ensures found { OnOk result (PutsFields footer.now located.now.bytes.now
-        (fields_view fields.now) readers.old.items readers.new.items) }
-    ensures none { IfErr result (λ fault. fault ≢ OutOfMemory → (structs : List (List Cell))
-        → SpellsFields (fields_view fields.now)
-        (columns_from footer.now located.now.bytes.now (length readers.old.items)) structs
-        → ⊥) }
-    ensures fault { IfErr result (λ cause. cause ≢ OutOfMemory
-        → (count : ℕ) → FaultWithin (fields_view fields.now) (columns_of footer.now located.now.bytes.now)
-        (length readers.old.items) false count cause) }
-{
-    match fields {
-        [] => Ok(()),
-        [first, others @ ..] => {
-            put_tree(alloc, &first.tree, footer, located, readers)?;
-            put_fields(alloc, others, footer, located, readers)
-        }
-    }
 }

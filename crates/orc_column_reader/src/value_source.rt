@@ -4,15 +4,16 @@ ghost use Rattle.std.specs.Prelude.{◌≡◌, []};
 ghost use Rattle.orc_rle.specs.declared.sign.Rle.TheVariants.{One};
 ghost use Rattle.orc_rle.specs.declared.sign.Sign.TheVariants.{Signed};
 ghost use Rattle.orc_column_reader.specs.Starting.{NumbersStart, BytesStart, BitsStart};
-ghost use Rattle.orc_column_reader.specs.Stripe.{most_cells};
+ghost use Rattle.orc_values.specs.Limits.{most_cells};
 
 use crate::bits::{Bits, bits_of};
 use crate::bytes::{RunLengthBytes, bytes_of};
-use crate::column::{MOST_CELLS, ValueSource};
+use crate::column::ValueSource;
 use crate::entry::Entry;
 use crate::numbers::{Numbers, numbers_of};
 use crate::octets::Octets;
 use orc_rle::{Rle, Sign};
+use orc_values::MOST_CELLS;
 
 /// A stream of integers that has none, for columns without one.
 fn no_numbers() -> Numbers<'static>

@@ -12,15 +12,15 @@ ghost use Rattle.orc_column_reader.specs.RunsMet.{NumbersMeet, BytesMeet};
 ghost use Rattle.orc_column_reader.specs.Faults.{RunsFail};
 ghost use Rattle.orc_column_reader.specs.RunFaults.{Always};
 ghost use Rattle.orc_column_reader.specs.ReaderFaults.{IntsMeet};
-ghost use Rattle.orc_column_reader.specs.declared.fault.StripeFault.TheVariants as fault;
-ghost use Rattle.orc_column_reader.specs.declared.fault.StreamKind.TheVariants as stream;
+ghost use Rattle.orc_directory.specs.declared.fault.StripeFault.TheVariants as fault;
+ghost use Rattle.orc_directory.specs.declared.fault.StreamKind.TheVariants as stream;
 ghost use Rattle.orc_values.specs.declared.kind.Scalar.TheVariants as kinds;
 ghost use Rattle.orc_rle.specs.declared.fault.RunFault.{RunFault as RunsFault};
-ghost use Rattle.orc_column_reader.specs.declared.fault.StripeFault.{StripeFault as Fault};
+ghost use Rattle.orc_directory.specs.declared.fault.StripeFault.{StripeFault as Fault};
 
 use crate::bytes::RunLengthBytes;
-use crate::fault::{StreamKind, StripeFault, run_fault};
 use crate::numbers::Numbers;
+use orc_directory::{StreamKind, StripeFault, run_fault};
 use orc_values::{Own, Scalar, int_fits};
 
 /// The next number of the stream.

@@ -12,13 +12,13 @@ use Rattle.orc_column_reader.specs.Columns.{CellsLeft, FieldsLeft}
 use Rattle.orc_column_reader.specs.Fronts.{Leaves, Lacks}
 use Rattle.orc_column_reader.specs.ReaderFaults.{CellsMeet, FieldsMeet}
 use Rattle.orc_column_reader.specs.declared.column.ColumnReader.{ColumnReader}
-use Rattle.orc_column_reader.specs.declared.fault.StripeFault.{StripeFault}
-use Rattle.orc_column_reader.proofs.Arms.{fields_none, fields_lack_first, fields_lack_others}
+use Rattle.orc_directory.specs.declared.fault.StripeFault.{StripeFault}
+use Rattle.orc_row_reader.proofs.Arms.{fields_none, fields_lack_first, fields_lack_others}
 use Rattle.orc_column_reader.proofs.Fronts.{fielded_leaves}
-use Rattle.orc_json.specs.Layouts.{Part, parts_text}
-use Rattle.orc_json.specs.Outputs.{Puts}
-use Rattle.orc_json.proofs.Outputs.{puts_then, puts_is}
-use Rattle.orc_json.specs.declared.layout.FieldColumns.{FieldColumns}
+use Rattle.orc_json_printer.specs.Layouts.{LaidMember, parts_text}
+use Rattle.orc_json_printer.specs.Outputs.{Puts}
+use Rattle.orc_json_printer.proofs.Outputs.{puts_then, puts_is}
+use Rattle.orc_json_printer.specs.declared.layout.FieldColumns.{FieldColumns}
 use Rattle.orc_column_text.specs.LaidOut.{count_of}
 use Rattle.orc_column_text.specs.Taken.{Printed}
 use Rattle.orc_column_text.specs.Regions.{field_at, columns_before, readers_at, AreColumnsOf, member_of, AreMembersOf, GaveCell, PrintedMember}
@@ -223,7 +223,7 @@ agrees_before (Some x ∷ cs) (d ∷ ds) (suc i) c lt free a = (a.0, agrees_befo
 -- ---- the members that are left
 
 -- none of their fields was taken
-abbrev pub AreFree : List (Option Cell) → List Part → Type 0
+abbrev pub AreFree : List (Option Cell) → List LaidMember → Type 0
 AreFree cs ps = AllByRecursion (λ p. get_or cs p.place None ≡ None) ps
 
 none_at : (fs : Fields) (i : ℕ) → get_or (none_of fs) i None ≡ None
@@ -231,7 +231,7 @@ none_at no_field i = refl
 none_at (field name s fs) zero = refl
 none_at (field name s fs) (suc i) = none_at fs i
 
-free_begin : (fs : Fields) (ps : List Part) → AreFree (none_of fs) ps
+free_begin : (fs : Fields) (ps : List LaidMember) → AreFree (none_of fs) ps
 free_begin fs [] = tt
 free_begin fs (p ∷ ps) = (none_at fs p.place, free_begin fs ps)
 
@@ -240,7 +240,7 @@ index_told None = 0
 index_told (Some i) = i
 
 -- a member of a later index has another place
-free_step : (xs : List FieldColumns) (k i : ℕ) (place : ℕ) (c : Cell) (cs : List (Option Cell)) (ps : List Part) → k < i → slice_get (map member_of xs) place ≡ Some k
+free_step : (xs : List FieldColumns) (k i : ℕ) (place : ℕ) (c : Cell) (cs : List (Option Cell)) (ps : List LaidMember) → k < i → slice_get (map member_of xs) place ≡ Some k
     → AreMembersOf xs i ps → AreFree cs ps → AreFree (slice_set cs place (Some c)) ps
 free_step xs k i place c cs [] lt at own free = tt
 free_step xs k i place c cs (p ∷ ps) lt at own free =
@@ -253,7 +253,7 @@ free_step xs k i place c cs (p ∷ ps) lt at own free =
 -- ---- members, one after the other
 
 -- some members are printed, and those that are left make the text whole, whatever the cells of their fields are
-pub record Reading {T : Type 0} (holds : T → List ℕ → Type 0) (fs : Fields) (before now : List ColumnReader) (all left : List Part) (start out : T) : Type 0 where
+pub record Reading {T : Type 0} (holds : T → List ℕ → Type 0) (fs : Fields) (before now : List ColumnReader) (all left : List LaidMember) (start out : T) : Type 0 where
   pub cells : List (Option Cell)
   pub are : FieldsAre fs before now cells
   pub counted : length now ≡ widths fs
@@ -261,7 +261,7 @@ pub record Reading {T : Type 0} (holds : T → List ℕ → Type 0) (fs : Fields
   pub free : AreFree cells left
   pub text : (ds : List Cell) (new : T) → Agrees cells ds → Puts holds out new (parts_text left ds) → Puts holds start new (parts_text all ds)
 
-pub reading_first : {T : Type 0} (holds : T → List ℕ → Type 0) (fs : Fields) (rs : List ColumnReader) (ps : List Part) (out : T) → length rs ≡ widths fs → length ps ≡ count_of fs → Reading holds fs rs rs ps ps out out
+pub reading_first : {T : Type 0} (holds : T → List ℕ → Type 0) (fs : Fields) (rs : List ColumnReader) (ps : List LaidMember) (out : T) → length rs ≡ widths fs → length ps ≡ count_of fs → Reading holds fs rs rs ps ps out out
 reading_first holds fs rs ps out n m = record {
   cells = none_of fs;
   are = fields_begin fs rs;
@@ -271,7 +271,7 @@ reading_first holds fs rs ps out n m = record {
   text = λ ds new a p. p;
 }
 
-pub reading_next : {T : Type 0} (holds : T → List ℕ → Type 0) (fs : Fields) (before now after : List ColumnReader) (all left rest : List Part) (p : Part) (start out new : T) (xs : List FieldColumns) (index : ℕ)
+pub reading_next : {T : Type 0} (holds : T → List ℕ → Type 0) (fs : Fields) (before now after : List ColumnReader) (all left rest : List LaidMember) (p : LaidMember) (start out new : T) (xs : List FieldColumns) (index : ℕ)
     → left ≡ p ∷ rest → AreMembersOf xs index left → p.place < count_of fs → length after ≡ length now → PrintedMember holds fs p now after out new
     → Reading holds fs before now all left start out → Reading holds fs before after all rest start new
 reading_next holds fs before now after all left rest p start out new xs index is own lt same m r =
@@ -293,27 +293,27 @@ reading_next holds fs before now after all left rest p start out new xs index is
           let one : (p.key ++ p.text m.one) ++ tail ≡ parts_text left ds =
           append_assoc p.key (p.text m.one) tail
           ∙ ap (λ (c : Cell). p.key ++ (p.text c ++ tail)) (sym known)
-          ∙ ap (λ (ps : List Part). parts_text ps ds) (sym is)
+          ∙ ap (λ (ps : List LaidMember). parts_text ps ds) (sym is)
           in
           r.text ds end (agrees_before r.cells ds p.place m.one there free.0 a)
           (puts_is holds out end ((p.key ++ p.text m.one) ++ tail) (parts_text left ds) one (puts_then holds out new end (p.key ++ p.text m.one) tail m.put others));
     }
 
-pub reading_last : {T : Type 0} (holds : T → List ℕ → Type 0) (fs : Fields) (before now : List ColumnReader) (all left : List Part) (start out new : T) → left ≡ [] → Puts holds out new (125 ∷ []) → Reading holds fs before now all left start out
+pub reading_last : {T : Type 0} (holds : T → List ℕ → Type 0) (fs : Fields) (before now : List ColumnReader) (all left : List LaidMember) (start out new : T) → left ≡ [] → Puts holds out new (125 ∷ []) → Reading holds fs before now all left start out
     → Printed holds (FieldsLeft fs before) (FieldsLeft fs now) (parts_text all) start new
 reading_last holds fs before now all left start out new is n r =
     let cs = cells_taken r.cells in
     record {
       one = cs;
       taken = fields_done fs before now r.cells (r.missing_is ∙ ap length is) r.are;
-      put = r.text cs new (agrees_all r.cells) (puts_is holds out new (125 ∷ []) (parts_text left cs) (ap (λ (ps : List Part). parts_text ps cs) (sym is)) n);
+      put = r.text cs new (agrees_all r.cells) (puts_is holds out new (125 ∷ []) (parts_text left cs) (ap (λ (ps : List LaidMember). parts_text ps cs) (sym is)) n);
     }
 
-pub reading_last_meet : {T : Type 0} (holds : T → List ℕ → Type 0) (fs : Fields) (before now : List ColumnReader) (all left : List Part) (start out : T) (every : Bool) (n : ℕ) (f : StripeFault) → left ≡ [] → Reading holds fs before now all left start out
+pub reading_last_meet : {T : Type 0} (holds : T → List ℕ → Type 0) (fs : Fields) (before now : List ColumnReader) (all left : List LaidMember) (start out : T) (every : Bool) (n : ℕ) (f : StripeFault) → left ≡ [] → Reading holds fs before now all left start out
     → FieldsMeet fs now every n f → FieldsMeet fs before every (suc n) f
 reading_last_meet holds fs before now all left start out every n f is r m = fields_done_meet fs before now r.cells every n f (r.missing_is ∙ ap length is) r.are m
 
-pub reading_lacks : {T : Type 0} (holds : T → List ℕ → Type 0) (fs : Fields) (before now : List ColumnReader) (all left rest : List Part) (p : Part) (start out : T) → left ≡ p ∷ rest → p.place < count_of fs → Reading holds fs before now all left start out
+pub reading_lacks : {T : Type 0} (holds : T → List ℕ → Type 0) (fs : Fields) (before now : List ColumnReader) (all left rest : List LaidMember) (p : LaidMember) (start out : T) → left ≡ p ∷ rest → p.place < count_of fs → Reading holds fs before now all left start out
     → Lacks (CellsLeft (field_at fs p.place) (readers_at fs p.place now)) 1 → Lacks (FieldsLeft fs before) 1
 reading_lacks holds fs before now all left rest p start out is lt r h =
     let free : AreFree r.cells (p ∷ rest) = subst (AreFree r.cells) is r.free in
@@ -321,7 +321,7 @@ reading_lacks holds fs before now all left rest p start out is lt r h =
     field_lacks fs before p.place lt
     (subst (λ z. Lacks (CellsLeft (field_at fs p.place) z) 1) (fields_free fs before now r.cells p.place (omega (arith, n, lt)) free.0 r.are) h)
 
-pub reading_meets : {T : Type 0} (holds : T → List ℕ → Type 0) (fs : Fields) (before now : List ColumnReader) (all left rest : List Part) (p : Part) (start out : T) (every : Bool) (n : ℕ) (f : StripeFault) → left ≡ p ∷ rest → p.place < count_of fs
+pub reading_meets : {T : Type 0} (holds : T → List ℕ → Type 0) (fs : Fields) (before now : List ColumnReader) (all left rest : List LaidMember) (p : LaidMember) (start out : T) (every : Bool) (n : ℕ) (f : StripeFault) → left ≡ p ∷ rest → p.place < count_of fs
     → Reading holds fs before now all left start out → CellsMeet (field_at fs p.place) (readers_at fs p.place now) every n f → FieldsMeet fs before every n f
 reading_meets holds fs before now all left rest p start out every n f is lt r h =
     let free : AreFree r.cells (p ∷ rest) = subst (AreFree r.cells) is r.free in

@@ -8,18 +8,19 @@ use Rattle.orc_values.specs.Views.{shape, fields}
 use Rattle.orc_values.specs.declared.kind.Scalar.{Scalar}
 use Rattle.orc_values.specs.declared.tree.Field.{Field}
 use Rattle.orc_values.proofs.Views.{name_and_type-is}
-use Rattle.orc_json.specs.Layouts.{member_parts}
-use Rattle.orc_json.specs.declared.layout.Layout.{Layout, Leaf, List as ListOf, Map as MapOf, Struct as StructOf, out-Layout}
-use Rattle.orc_json.specs.declared.layout.Layout.TheFolds.{the_lemmas}
-use Rattle.orc_json.specs.declared.layout.Layout.TheOpen.{Layout-F}
-use Rattle.orc_json.specs.declared.layout.Member.{Member}
-use Rattle.orc_json.specs.declared.layout.FieldColumns.{FieldColumns}
-use Rattle.orc_json.specs.declared.layout.PairLayout.{PairLayout}
+use Rattle.orc_json_printer.specs.Layouts.{member_parts}
+use Rattle.orc_json_printer.specs.declared.layout.Layout.{Layout, Leaf, List as ListOf, Map as MapOf, Struct as StructOf, out-Layout}
+use Rattle.orc_json_printer.specs.declared.layout.Layout.TheFolds.{the_lemmas}
+use Rattle.orc_json_printer.specs.declared.layout.Layout.TheOpen.{Layout-F}
+use Rattle.orc_json_printer.specs.declared.layout.Member.{Member}
+use Rattle.orc_json_printer.specs.declared.layout.FieldColumns.{FieldColumns}
+use Rattle.orc_json_printer.specs.declared.layout.PairLayout.{PairLayout}
 use Rattle.orc_column_text.specs.LaidOut.{count_of, HasMembers, IsLaidOut, AreFieldsLaidOut}
 use Rattle.orc_column_text.specs.Regions.{field_at, AreColumnsOf, AreMembersOf}
 use Rattle.orc_column_text.proofs.AnyOrder.{columns_many}
 use Rattle.orc_column_text.proofs.Members.{many-fields, plus_one, parts_from, place_told}
 use Rattle.orc_column_text.proofs.Told.{get_told}
+use Rattle.std.proofs.lemmas.List.{get_or_default}
 
 some_same : (a b : ℕ) → Some a ≡ Some b → a ≡ b
 some_same a b e = cc
@@ -36,11 +37,6 @@ out_struct a x = search (rules, the_lemmas)
 
 struct_same : (a b : Vec Member Global) (x y : Vec FieldColumns Global) → StructOf a x ≡ StructOf b y → (a.items ≡ b.items) × (x.items ≡ y.items)
 struct_same a b x y e = (ap members_in (sym (out_struct a x) ∙ ap out-Layout e ∙ out_struct b y), cc)
-
-get_or_same : {X : Type 0} (xs : List X) (i : ℕ) (d e : X) → i < length xs → get_or xs i d ≡ get_or xs i e
-get_or_same [] i d e lt = absurd (omega (arith, lt))
-get_or_same (x ∷ xs) zero d e lt = refl
-get_or_same (x ∷ xs) (suc i) d e lt = get_or_same xs i d e (omega (arith, lt))
 
 -- the member that is told of the field at a place is laid out as the field's type
 pub laid_out_at : (fs : Fields) (xs : List FieldColumns) (ms : List Member) (i : ℕ) (d : FieldColumns) → i < count_of fs → i < length xs → AreFieldsLaidOut fs xs ms
@@ -59,7 +55,7 @@ member_laid_out fs xs ms j m lt is columns own laid =
     let many = columns_many fs 0 xs columns in
     let d : FieldColumns = record { member = 0; first = 0; count = 0 } in
     let here = laid_out_at fs xs ms m.place d (omega (arith, there, many)) there laid in
-    let index : (get_or xs m.place d).member ≡ j = some_same (get_or xs m.place d).member j (sym (get_told xs m.place (get_or xs m.place d) there (get_or_same xs m.place d (get_or xs m.place d) there)) ∙ told) in
+    let index : (get_or xs m.place d).member ≡ j = some_same (get_or xs m.place d).member j (sym (get_told xs m.place (get_or xs m.place d) there (get_or_default xs m.place d (get_or xs m.place d) there)) ∙ told) in
     let same : here.0 ≡ m = sym (get_or_from_slice_get ms j here.0 m (ap (slice_get ms) (sym index) ∙ here.1)) ∙ sym is in
     subst (λ (n : Member). IsLaidOut (field_at fs m.place) n.layout) same here.2
 

@@ -11,20 +11,20 @@ use Rattle.orc_column_reader.specs.Columns.{CellsLeft, FieldsLeft}
 use Rattle.orc_column_reader.specs.Fronts.{Lacks}
 use Rattle.orc_column_reader.specs.ReaderFaults.{CellsMeet, FieldsMeet}
 use Rattle.orc_column_reader.specs.declared.column.ColumnReader.{ColumnReader}
-use Rattle.orc_column_reader.specs.declared.fault.StripeFault.{StripeFault}
-use Rattle.orc_json.specs.Layouts.{Part, part, member_parts, text_by}
-use Rattle.orc_json.specs.declared.layout.FieldColumns.{FieldColumns}
-use Rattle.orc_json.specs.declared.layout.Member.{Member}
-use Rattle.orc_json.specs.Outputs.{Puts}
-use Rattle.orc_json.proofs.Outputs.{puts_then}
-use Rattle.orc_json.proofs.Layouts.{part-is}
+use Rattle.orc_directory.specs.declared.fault.StripeFault.{StripeFault}
+use Rattle.orc_json_printer.specs.Layouts.{LaidMember, part, member_parts, text_by}
+use Rattle.orc_json_printer.specs.declared.layout.FieldColumns.{FieldColumns}
+use Rattle.orc_json_printer.specs.declared.layout.Member.{Member}
+use Rattle.orc_json_printer.specs.Outputs.{Puts}
+use Rattle.orc_json_printer.proofs.Outputs.{puts_then}
+use Rattle.orc_json_printer.proofs.Layouts.{part-is}
 use Rattle.orc_column_text.specs.Taken.{Printed}
 use Rattle.orc_column_text.specs.Regions.{field_at, columns_before, readers_at, AreColumnsOf, member_of, AreMembersOf, GaveCell, PrintedMember}
 use Rattle.orc_column_text.specs.LaidOut.{count_of}
 use Rattle.orc_column_text.proofs.AnyOrder.{region_within, columns_many, Reading, reading_next, reading_lacks, reading_meets}
 
 -- a member as what is printed of it
-abbrev pub part_of : Member → Part
+abbrev pub part_of : Member → LaidMember
 part_of m = record { key = m.key.items; place = m.place; text = text_by m.layout }
 
 pub many-fields : (fs : List Field) → count_of (fields fs) ≡ length fs

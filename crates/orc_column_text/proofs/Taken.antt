@@ -1,5 +1,5 @@
 -- What is taken from the readers of columns, with its text.
-use Rattle.std.proofs.Common.{◌≡◌, ℕ, ◌+◌, ◌≤◌, ◌-◌, List, [], ◌∷◌, ◌++◌, Bool, true, false, length, take, drop, get_or, slice_set, Vec, Box, Global, refl, sym, subst, inl, ap, ◌∙◌, arith, length-append}
+use Rattle.std.proofs.Common.{◌≡◌, ℕ, ◌+◌, ◌≤◌, ◌-◌, List, [], ◌∷◌, ◌++◌, Bool, true, false, length, take, drop, get_or, slice_set, Vec, Box, Global, refl, sym, ap, ◌∙◌, arith, length-append}
 use borrow.Rule.Slice.PartMut.{put_mid}
 use Rattle.serde_json.specs.Written.{comma_if}
 use Rattle.orc_values.specs.Cells.{Cell, list, struct, pairs, cells_of, pairs_of}
@@ -7,22 +7,20 @@ use Rattle.orc_values.specs.Shapes.{Shape, scalar, list_of, map_of, struct_of, F
 use Rattle.orc_values.specs.declared.kind.Scalar.{Scalar}
 use Rattle.orc_column_reader.specs.Fronts.{Leaves, Lacks}
 use Rattle.orc_column_reader.specs.Columns.{CellsLeft, OwnLeft, ScalarLeft, ListsOf, MapsOf, PairsLeft, FieldsLeft, MarksLeft, marks_of}
-use Rattle.orc_column_reader.specs.ReaderFaults.{ScalarMeets, OwnMeet}
-use Rattle.orc_column_reader.specs.declared.fault.StripeFault.{StripeFault}
 use Rattle.orc_column_reader.specs.declared.column.ColumnReader.{ColumnReader}
 use Rattle.orc_column_reader.specs.declared.column.ValueSource.{ValueSource}
-use Rattle.orc_column_reader.proofs.Arms.{cell_value, own_list, own_map, own_struct, pair_next}
+use Rattle.orc_row_reader.proofs.Arms.{cell_value, own_list, own_map, own_struct, pair_next}
 use Rattle.orc_column_reader.proofs.Fronts.{one_after_other}
-use Rattle.orc_json.specs.Layouts.{text_by, member_parts, parts_text, leaf_text, pair_text, pair_texts}
-use Rattle.orc_json.specs.declared.layout.Layout.{Layout, Leaf, List as ListOf, Map as MapLayout, Struct}
-use Rattle.orc_json.specs.declared.layout.Member.{Member}
-use Rattle.orc_json.specs.declared.layout.FieldColumns.{FieldColumns}
-use Rattle.orc_json.specs.declared.layout.PairLayout.{PairLayout}
-use Rattle.orc_json.specs.Outputs.{Puts}
-use Rattle.orc_json.proofs.Outputs.{puts_then, puts_is}
-use Rattle.orc_json.proofs.Layouts.{text_by-Leaf, pair_texts-is}
+use Rattle.orc_json_printer.specs.Layouts.{text_by, member_parts, parts_text, leaf_text, pair_text, pair_texts}
+use Rattle.orc_json_printer.specs.declared.layout.Layout.{Layout, Leaf, List as ListOf, Map as MapLayout, Struct}
+use Rattle.orc_json_printer.specs.declared.layout.Member.{Member}
+use Rattle.orc_json_printer.specs.declared.layout.FieldColumns.{FieldColumns}
+use Rattle.orc_json_printer.specs.declared.layout.PairLayout.{PairLayout}
+use Rattle.orc_json_printer.specs.Outputs.{Puts}
+use Rattle.orc_json_printer.proofs.Outputs.{puts_then, puts_is}
+use Rattle.orc_json_printer.proofs.Layouts.{text_by-Leaf, pair_texts-is}
 use Rattle.orc_column_text.specs.Taken.{Printed, PrintedValue, PrintedAll}
-use Rattle.orc_column_text.specs.Texts.{texts}
+use Rattle.orc_column_text.specs.Texts.{comma_texts}
 use Rattle.orc_column_text.proofs.Texts.{follows, follows-snoc, texts-snoc, list_printed, map_printed, struct_printed}
 
 -- ---- cells, one after the other
@@ -31,7 +29,7 @@ pub record PrintedSoFar {T X : Type 0} (holds : T → List ℕ → Type 0) (befo
   pub all : List X
   pub counted : length all ≡ count
   pub taken : Leaves before after all
-  pub put : Puts holds old new (texts f false all)
+  pub put : Puts holds old new (comma_texts f false all)
   pub later_is : later ≡ follows false all
 
 pub passed_next : {T X : Type 0} (holds : T → List ℕ → Type 0) (before between after : List X → Type 0) (f : X → List ℕ) (later : Bool) (count : ℕ) (old out mid new : T)
@@ -45,11 +43,11 @@ passed_next holds before between after f later count old out mid new m p h =
       all = h.all ++ own;
       counted = omega (arith, length-append h.all own, h.counted);
       taken = one_after_other before between after h.all own h.taken p.taken;
-      put = puts_is holds old new (texts f false h.all ++ text) (texts f false (h.all ++ own)) (sym (texts-snoc f false h.all p.one)) (puts_then holds old out new (texts f false h.all) text h.put next);
+      put = puts_is holds old new (comma_texts f false h.all ++ text) (comma_texts f false (h.all ++ own)) (sym (texts-snoc f false h.all p.one)) (puts_then holds old out new (comma_texts f false h.all) text h.put next);
       later_is = sym (follows-snoc false h.all p.one);
     }
 
-pub passed_all : {T X : Type 0} (holds : T → List ℕ → Type 0) (before after : List X → Type 0) (f : X → List ℕ) (later : Bool) (count n : ℕ) (old new : T) → count ≡ n → PrintedSoFar holds before after f later count old new → PrintedAll holds before after (texts f false) n old new
+pub passed_all : {T X : Type 0} (holds : T → List ℕ → Type 0) (before after : List X → Type 0) (f : X → List ℕ) (later : Bool) (count n : ℕ) (old new : T) → count ≡ n → PrintedSoFar holds before after f later count old new → PrintedAll holds before after (comma_texts f false) n old new
 passed_all holds before after f later count n old new e h = record { all = h.all; counted = h.counted ∙ e; taken = h.taken; put = h.put }
 
 -- ---- a value of a kind that contains no other
@@ -65,11 +63,6 @@ pub scalar_lacking : (s : Shape) (k : Scalar) (o : List ℕ) (before : List Colu
     → Lacks (ScalarLeft k (get_or before 0 d).source) 1 → Lacks (OwnLeft s before) 1
 scalar_lacking s k o [] d is some p = absurd (omega (arith, some))
 scalar_lacking s k o (own ∷ below) d is some p = rw is p
-
-pub scalar_meets : (s : Shape) (k : Scalar) (o : List ℕ) (before : List ColumnReader) (d : ColumnReader) (all : Bool) (n : ℕ) (f : StripeFault) → s ≡ scalar k o → 1 ≤ length before
-    → ScalarMeets k (get_or before 0 d).source all n f → OwnMeet s before all n f
-scalar_meets s k o [] d all n f is some p = absurd (omega (arith, some))
-scalar_meets s k o (own ∷ below) d all n f is some p = subst (λ z. OwnMeet z (own ∷ below) all n f) (sym is) (inl p)
 
 -- ---- a cell
 
@@ -88,13 +81,13 @@ bracketed holds old begun mid new text b m n =
     puts_then holds old begun new (91 ∷ []) (text ++ 93 ∷ []) b (puts_then holds begun mid new text (93 ∷ []) m n)
 
 pub list_taken_text : {T : Type 0} (holds : T → List ℕ → Type 0) (s e : Shape) (o : List ℕ) (l : Layout) (b : Box Layout Global) (before after : List ColumnReader) (old new : T) → s ≡ list_of e o → l ≡ ListOf b → 1 ≤ length before → length after ≡ length before
-    → Printed holds (ListsOf e before) (ListsOf e after) (λ cells. 91 ∷ (texts (text_by b.value) false cells ++ 93 ∷ [])) old new
+    → Printed holds (ListsOf e before) (ListsOf e after) (λ cells. 91 ∷ (comma_texts (text_by b.value) false cells ++ 93 ∷ [])) old new
     → PrintedValue holds (OwnLeft s before) (OwnLeft s after) (text_by l) old new
 list_taken_text holds s e o l b before after old new is layout some same p = record {
   one = list (cells_of p.one);
   some = refl;
   taken = own_list s e o before after p.one (list (cells_of p.one)) is refl some same p.taken;
-  put = puts_is holds old new (91 ∷ (texts (text_by b.value) false p.one ++ 93 ∷ [])) (text_by l (list (cells_of p.one))) (sym (list_printed l b p.one layout)) p.put;
+  put = puts_is holds old new (91 ∷ (comma_texts (text_by b.value) false p.one ++ 93 ∷ [])) (text_by l (list (cells_of p.one))) (sym (list_printed l b p.one layout)) p.put;
 }
 
 pub struct_taken_text : {T : Type 0} (holds : T → List ℕ → Type 0) (s : Shape) (fs : Fields) (o : List ℕ) (l : Layout) (ms : Vec Member Global) (xs : Vec FieldColumns Global) (before ys : List ColumnReader) (old mid new : T) → s ≡ struct_of fs o → l ≡ Struct ms xs → 1 ≤ length before
@@ -111,13 +104,13 @@ struct_taken_text holds s fs o l ms xs before ys old mid new is layout some m p 
 -- ---- maps
 
 pub map_taken_text : {T : Type 0} (holds : T → List ℕ → Type 0) (s k v : Shape) (o : List ℕ) (l : Layout) (b : Box PairLayout Global) (before after : List ColumnReader) (old new : T) → s ≡ map_of k v o → l ≡ MapLayout b → 1 ≤ length before → length after ≡ length before
-    → Printed holds (MapsOf k v before) (MapsOf k v after) (λ ps. 91 ∷ (texts (pair_text (pair_texts b.value)) false ps ++ 93 ∷ [])) old new
+    → Printed holds (MapsOf k v before) (MapsOf k v after) (λ ps. 91 ∷ (comma_texts (pair_text (pair_texts b.value)) false ps ++ 93 ∷ [])) old new
     → PrintedValue holds (OwnLeft s before) (OwnLeft s after) (text_by l) old new
 map_taken_text holds s k v o l b before after old new is layout some same p = record {
   one = pairs (pairs_of p.one);
   some = refl;
   taken = own_map s k v o before after p.one (pairs (pairs_of p.one)) is refl some same p.taken;
-  put = puts_is holds old new (91 ∷ (texts (pair_text (pair_texts b.value)) false p.one ++ 93 ∷ [])) (text_by l (pairs (pairs_of p.one))) (sym (map_printed l b p.one layout)) p.put;
+  put = puts_is holds old new (91 ∷ (comma_texts (pair_text (pair_texts b.value)) false p.one ++ 93 ∷ [])) (text_by l (pairs (pairs_of p.one))) (sym (map_printed l b p.one layout)) p.put;
 }
 
 -- a key and a value in brackets

@@ -4,9 +4,9 @@ use Rattle.std.specs.Prelude.{slice_get}
 use Rattle.std.specs.Bool.{OnTrue}
 use Rattle.std.proofs.Math.Seq.{take-length}
 use Rattle.orc_values.specs.Shapes.{Shape, Fields, no_field, field, width}
-use Rattle.orc_json.specs.Layouts.{member_parts}
-use Rattle.orc_json.specs.declared.layout.FieldColumns.{FieldColumns}
-use Rattle.orc_json.specs.declared.layout.Member.{Member}
+use Rattle.orc_json_printer.specs.Layouts.{member_parts}
+use Rattle.orc_json_printer.specs.declared.layout.FieldColumns.{FieldColumns}
+use Rattle.orc_json_printer.specs.declared.layout.Member.{Member}
 use Rattle.orc_column_text.specs.Regions.{AreColumnsOf, member_of, AreMembersOf}
 use Rattle.orc_column_text.proofs.Texts.{first_member}
 

@@ -3,11 +3,11 @@
 use Rattle.std.specs.Prelude.{◌≡◌, ℕ, suc, List, [], ◌∷◌, length, Some, slice_get, Vec, Box}
 use Rattle.std.specs.Global.{Global}
 use Rattle.orc_values.specs.Shapes.{Shape, scalar, list_of, map_of, struct_of, Fields, no_field, field}
-use Rattle.orc_json.specs.Layouts.{member_parts}
-use Rattle.orc_json.specs.declared.layout.Layout.{Layout, Leaf, List as ListOf, Map as MapOf, Struct as StructOf}
-use Rattle.orc_json.specs.declared.layout.Member.{Member}
-use Rattle.orc_json.specs.declared.layout.FieldColumns.{FieldColumns}
-use Rattle.orc_json.specs.declared.layout.PairLayout.{PairLayout}
+use Rattle.orc_json_printer.specs.Layouts.{member_parts}
+use Rattle.orc_json_printer.specs.declared.layout.Layout.{Layout, Leaf, List as ListOf, Map as MapOf, Struct as StructOf}
+use Rattle.orc_json_printer.specs.declared.layout.Member.{Member}
+use Rattle.orc_json_printer.specs.declared.layout.FieldColumns.{FieldColumns}
+use Rattle.orc_json_printer.specs.declared.layout.PairLayout.{PairLayout}
 use Rattle.orc_column_text.specs.Regions.{AreColumnsOf, AreMembersOf}
 
 -- how many fields these are

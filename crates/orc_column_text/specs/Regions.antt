@@ -8,10 +8,10 @@ use Rattle.orc_column_reader.specs.Columns.{CellsLeft}
 use Rattle.orc_column_reader.specs.Fronts.{Leaves}
 use Rattle.orc_column_reader.specs.ReaderFaults.{CellsMeet}
 use Rattle.orc_column_reader.specs.declared.column.ColumnReader.{ColumnReader}
-use Rattle.orc_column_reader.specs.declared.fault.StripeFault.{StripeFault}
-use Rattle.orc_json.specs.Layouts.{Part}
-use Rattle.orc_json.specs.Outputs.{Puts}
-use Rattle.orc_json.specs.declared.layout.FieldColumns.{FieldColumns}
+use Rattle.orc_directory.specs.declared.fault.StripeFault.{StripeFault}
+use Rattle.orc_json_printer.specs.Layouts.{LaidMember}
+use Rattle.orc_json_printer.specs.Outputs.{Puts}
+use Rattle.orc_json_printer.specs.declared.layout.FieldColumns.{FieldColumns}
 use borrow.Rule.Slice.PartMut.{put_mid}
 
 -- the type of the field at a place
@@ -43,7 +43,7 @@ abbrev pub member_of : FieldColumns → ℕ
 member_of x = x.member
 
 -- each member's place is that of the field which names it
-abbrev pub AreMembersOf : List FieldColumns → ℕ → List Part → Type 0
+abbrev pub AreMembersOf : List FieldColumns → ℕ → List LaidMember → Type 0
 AreMembersOf xs index [] = Unit {0}
 AreMembersOf xs index (p ∷ ps) = (slice_get (map member_of xs) p.place ≡ Some index) × AreMembersOf xs (suc index) ps
 
@@ -53,7 +53,7 @@ pub record GaveCell (s : Shape) (before after : List ColumnReader) (cell : Cell)
   pub faults : (all : Bool) (n : ℕ) (f : StripeFault) → CellsMeet s after all n f → CellsMeet s before all (suc n) f
 
 -- a member is printed: its key, and the cell of the field at its place, whose readers alone are others now
-pub record PrintedMember {T : Type 0} (holds : T → List ℕ → Type 0) (fs : Fields) (p : Part)
+pub record PrintedMember {T : Type 0} (holds : T → List ℕ → Type 0) (fs : Fields) (p : LaidMember)
     (before after : List ColumnReader) (old new : T) : Type 0 where
   pub one : Cell
   pub own : List ColumnReader

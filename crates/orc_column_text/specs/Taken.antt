@@ -6,13 +6,13 @@ use Rattle.orc_values.specs.Shapes.{Shape}
 use Rattle.orc_column_reader.specs.Columns.{CellsLeft}
 use Rattle.orc_column_reader.specs.Fronts.{Leaves}
 use Rattle.orc_column_reader.specs.declared.column.ColumnReader.{ColumnReader}
-use Rattle.orc_column_reader.specs.declared.fault.StripeFault.{StripeFault}
-use Rattle.orc_column_reader.specs.declared.fault.StripeFault.TheVariants.{OutOfMemory}
-use Rattle.orc_json.specs.Outputs.{Puts}
+use Rattle.orc_directory.specs.declared.fault.StripeFault.{StripeFault}
+use Rattle.orc_directory.specs.declared.fault.StripeFault.TheVariants.{OutOfMemory}
+use Rattle.orc_json_printer.specs.Outputs.{Puts}
 
 -- a refusal is no want of memory of an output that grows
-abbrev pub Stands : Bool → StripeFault → Type 0
-Stands grows fault = fault ≡ OutOfMemory → grows ≡ false
+abbrev pub IsNoGrowth : Bool → StripeFault → Type 0
+IsNoGrowth grows fault = fault ≡ OutOfMemory → grows ≡ false
 
 -- one is taken, and its text is put behind what was there
 pub record Printed {T X : Type 0} (holds : T → List ℕ → Type 0) (before after : List X → Type 0) (text : X → List ℕ)

@@ -6,20 +6,21 @@ ghost use Rattle.orc_values.specs.Views.{shape, fields as fields_view};
 ghost use Rattle.orc_column_reader.specs.Fronts.{Leaves, Lacks};
 ghost use Rattle.orc_column_reader.specs.Columns.{CellsLeft, OwnLeft, ScalarLeft, ListsOf, MapsOf, PairsLeft, FieldsLeft, column_of, marks_of};
 ghost use Rattle.orc_column_reader.specs.ReaderFaults.{CellsMeet, OwnMeet, ScalarMeets, ListsOfMeet, MapsOfMeet, PairsMeet, FieldsMeet};
-ghost use Rattle.orc_column_reader.specs.declared.fault.StripeFault.{StripeFault as Fault};
-ghost use Rattle.orc_column_reader.specs.declared.fault.StripeFault.TheVariants.{OutOfMemory};
-ghost use Rattle.orc_json.specs.Layouts.{text_by, leaf_text, pair_text, pair_texts, part, member_parts, parts_text};
+ghost use Rattle.orc_directory.specs.declared.fault.StripeFault.{StripeFault as Fault};
+ghost use Rattle.orc_directory.specs.declared.fault.StripeFault.TheVariants.{OutOfMemory};
+ghost use Rattle.orc_json_printer.specs.Layouts.{text_by, leaf_text, pair_text, pair_texts, part, member_parts, parts_text};
 ghost use Rattle.orc_column_text.specs.LaidOut.{IsLaidOut, AreFieldsLaidOut};
 ghost use Rattle.orc_column_text.specs.Regions.{field_at, columns_before, readers_at, AreColumnsOf, AreMembersOf, PrintedMember};
-ghost use Rattle.orc_column_text.specs.Taken.{Stands, Printed, PrintedValue, PrintedAll};
-ghost use Rattle.orc_column_text.specs.Texts.{texts};
+ghost use Rattle.orc_column_text.specs.Taken.{IsNoGrowth, Printed, PrintedValue, PrintedAll};
+ghost use Rattle.orc_column_text.specs.Texts.{comma_texts};
 
 use crate::laid_out::own_width;
-use orc_column_reader::{ColumnReader, StripeFault, ValueSource, next_present, next_size};
-use orc_json::TextOutput;
-use orc_json::layout::{FieldColumns, Layout, Member, PairLayout};
-use orc_json::leaf_text::push_own;
-use orc_json::printing::push_comma_if;
+use orc_column_reader::{ColumnReader, ValueSource, next_present, next_size};
+use orc_directory::StripeFault;
+use orc_json_printer::TextOutput;
+use orc_json_printer::layout::{FieldColumns, Layout, Member, PairLayout};
+use orc_json_printer::leaf_text::push_own;
+use orc_json_printer::printing::push_comma_if;
 use orc_values::{Field, Scalar, Tree};
 
 /// Puts the text of a column's next cell, by a layout of the column's type. What is put before a refusal is left open.
@@ -39,7 +40,7 @@ pub fn push_cell<T: TextOutput>(
         (CellsLeft (shape tree.now) readers.new) (text_by layout.now) out.old out.new) }
     // A refusal other than want of memory stands, and any where the output wants none: the readers
     // lack a cell. A fault is one that they meet, now or after the cells before.
-    ensures none { IfErr result (λ fault. Stands T.grows fault → Lacks (CellsLeft (shape tree.now) readers.old) 1) }
+    ensures none { IfErr result (λ fault. IsNoGrowth T.grows fault → Lacks (CellsLeft (shape tree.now) readers.old) 1) }
     ensures before { OnOk result ((all : Bool) (n : ℕ) (f : Fault) → CellsMeet (shape tree.now) readers.new all n f
         → CellsMeet (shape tree.now) readers.old all (suc n) f) }
     ensures fault { IfErr result (λ cause. cause ≢ OutOfMemory
@@ -66,7 +67,7 @@ fn push_value<T: TextOutput>(
         (OwnLeft (shape tree.now) readers.new) (text_by layout.now) out.old out.new) }
     ensures column { OnOk result (column_of readers.new ≡ column_of readers.old) }
     ensures marks { OnOk result (marks_of readers.new ≡ marks_of readers.old) }
-    ensures none { IfErr result (λ fault. Stands T.grows fault → Lacks (OwnLeft (shape tree.now) readers.old) 1) }
+    ensures none { IfErr result (λ fault. IsNoGrowth T.grows fault → Lacks (OwnLeft (shape tree.now) readers.old) 1) }
     ensures before { OnOk result ((all : Bool) (n : ℕ) (f : Fault) → OwnMeet (shape tree.now) readers.new all n f
         → OwnMeet (shape tree.now) readers.old all (suc n) f) }
     ensures fault { IfErr result (λ cause. cause ≢ OutOfMemory
@@ -101,7 +102,7 @@ fn push_scalar<T: TextOutput>(
     ensures found { OnOk result (PrintedValue T.holds (ScalarLeft kind source.old) (ScalarLeft kind source.new)
         leaf_text out.old out.new) }
     ensures column { source.new.column ≡ source.old.column }
-    ensures none { IfErr result (λ fault. Stands T.grows fault → Lacks (ScalarLeft kind source.old) 1) }
+    ensures none { IfErr result (λ fault. IsNoGrowth T.grows fault → Lacks (ScalarLeft kind source.old) 1) }
     ensures before { OnOk result ((all : Bool) (n : ℕ) (f : Fault) → ScalarMeets kind source.new all n f
         → ScalarMeets kind source.old all (suc n) f) }
     ensures fault { IfErr result (λ cause. cause ≢ OutOfMemory
@@ -124,10 +125,10 @@ fn push_list<T: TextOutput>(
     requires laid_out { IsLaidOut (shape element.now) layout.now }
     ensures found { OnOk result (Printed T.holds (ListsOf (shape element.now) readers.old)
         (ListsOf (shape element.now) readers.new)
-        (λ cells. 91 ∷ (texts (text_by layout.now) false cells ++ 93 ∷ [])) out.old out.new) }
+        (λ cells. 91 ∷ (comma_texts (text_by layout.now) false cells ++ 93 ∷ [])) out.old out.new) }
     ensures column { OnOk result (column_of readers.new ≡ column_of readers.old) }
     ensures marks { OnOk result (marks_of readers.new ≡ marks_of readers.old) }
-    ensures none { IfErr result (λ fault. Stands T.grows fault → Lacks (ListsOf (shape element.now) readers.old) 1) }
+    ensures none { IfErr result (λ fault. IsNoGrowth T.grows fault → Lacks (ListsOf (shape element.now) readers.old) 1) }
     ensures before { OnOk result ((all : Bool) (n : ℕ) (f : Fault) → ListsOfMeet (shape element.now) readers.new all n f
         → ListsOfMeet (shape element.now) readers.old all (suc n) f) }
     ensures fault { IfErr result (λ cause. cause ≢ OutOfMemory
@@ -152,8 +153,8 @@ fn push_cells<T: TextOutput>(
     requires counted { length readers.old ≡ width (shape tree.now) }
     requires laid_out { IsLaidOut (shape tree.now) layout.now }
     ensures found { OnOk result (PrintedAll T.holds (CellsLeft (shape tree.now) readers.old)
-        (CellsLeft (shape tree.now) readers.new) (texts (text_by layout.now) false) count out.old out.new) }
-    ensures none { IfErr result (λ fault. Stands T.grows fault → Lacks (CellsLeft (shape tree.now) readers.old) count) }
+        (CellsLeft (shape tree.now) readers.new) (comma_texts (text_by layout.now) false) count out.old out.new) }
+    ensures none { IfErr result (λ fault. IsNoGrowth T.grows fault → Lacks (CellsLeft (shape tree.now) readers.old) count) }
     ensures before { OnOk result ((all : Bool) (n : ℕ) (f : Fault) → CellsMeet (shape tree.now) readers.new all n f
         → CellsMeet (shape tree.now) readers.old all (count + n) f) }
     ensures fault { IfErr result (λ cause. cause ≢ OutOfMemory
@@ -182,11 +183,11 @@ fn push_map<T: TextOutput>(
     requires value { IsLaidOut (shape value.now) layouts.now.value }
     ensures found { OnOk result (Printed T.holds (MapsOf (shape key.now) (shape value.now) readers.old)
         (MapsOf (shape key.now) (shape value.now) readers.new)
-        (λ pairs. 91 ∷ (texts (pair_text (pair_texts layouts.now)) false pairs ++ 93 ∷ []))
+        (λ pairs. 91 ∷ (comma_texts (pair_text (pair_texts layouts.now)) false pairs ++ 93 ∷ []))
         out.old out.new) }
     ensures column { OnOk result (column_of readers.new ≡ column_of readers.old) }
     ensures marks { OnOk result (marks_of readers.new ≡ marks_of readers.old) }
-    ensures none { IfErr result (λ fault. Stands T.grows fault
+    ensures none { IfErr result (λ fault. IsNoGrowth T.grows fault
         → Lacks (MapsOf (shape key.now) (shape value.now) readers.old) 1) }
     ensures before { OnOk result ((all : Bool) (n : ℕ) (f : Fault)
         → MapsOfMeet (shape key.now) (shape value.now) readers.new all n f
@@ -216,8 +217,8 @@ fn push_pairs<T: TextOutput>(
     requires value { IsLaidOut (shape value.now) layouts.now.value }
     ensures found { OnOk result (PrintedAll T.holds (PairsLeft (shape key.now) (shape value.now) readers.old)
         (PairsLeft (shape key.now) (shape value.now) readers.new)
-        (texts (pair_text (pair_texts layouts.now)) false) count out.old out.new) }
-    ensures none { IfErr result (λ fault. Stands T.grows fault
+        (comma_texts (pair_text (pair_texts layouts.now)) false) count out.old out.new) }
+    ensures none { IfErr result (λ fault. IsNoGrowth T.grows fault
         → Lacks (PairsLeft (shape key.now) (shape value.now) readers.old) count) }
     ensures before { OnOk result ((all : Bool) (n : ℕ) (f : Fault)
         → PairsMeet (shape key.now) (shape value.now) readers.new all n f
@@ -249,7 +250,7 @@ fn push_pair<T: TextOutput>(
     ensures found { OnOk result (Printed T.holds (PairsLeft (shape key.now) (shape value.now) readers.old)
         (PairsLeft (shape key.now) (shape value.now) readers.new) (pair_text (pair_texts layouts.now))
         out.old out.new) }
-    ensures none { IfErr result (λ fault. Stands T.grows fault
+    ensures none { IfErr result (λ fault. IsNoGrowth T.grows fault
         → Lacks (PairsLeft (shape key.now) (shape value.now) readers.old) 1) }
     ensures before { OnOk result ((all : Bool) (n : ℕ) (f : Fault)
         → PairsMeet (shape key.now) (shape value.now) readers.new all n f
@@ -284,7 +285,7 @@ fn push_members<T: TextOutput>(
     ensures found { OnOk result (Printed T.holds (FieldsLeft (fields_view fields.now.items) readers.old)
         (FieldsLeft (fields_view fields.now.items) readers.new) (parts_text (member_parts members.now))
         out.old out.new) }
-    ensures none { IfErr result (λ fault. Stands T.grows fault
+    ensures none { IfErr result (λ fault. IsNoGrowth T.grows fault
         → Lacks (FieldsLeft (fields_view fields.now.items) readers.old) 1) }
     ensures before { OnOk result ((all : Bool) (n : ℕ) (f : Fault)
         → FieldsMeet (fields_view fields.now.items) readers.new all n f
@@ -317,7 +318,7 @@ fn push_member<T: TextOutput>(
     requires laid_out { IsLaidOut (field_at (fields_view fields.now.items) member.now.place) member.now.layout }
     ensures found { OnOk result (PrintedMember T.holds (fields_view fields.now.items) (part member.now)
         readers.old readers.new out.old out.new) }
-    ensures none { IfErr result (λ fault. Stands T.grows fault
+    ensures none { IfErr result (λ fault. IsNoGrowth T.grows fault
         → Lacks (CellsLeft (field_at (fields_view fields.now.items) member.now.place)
         (readers_at (fields_view fields.now.items) member.now.place readers.old)) 1) }
     ensures fault { IfErr result (λ cause. cause ≢ OutOfMemory

@@ -3,11 +3,11 @@ ghost use Rattle.std.specs.Prelude.{◌≡◌, ◌<◌, ◌^◌, length};
 ghost use Rattle.std.specs.Bool.{OnTrue};
 ghost use Rattle.orc_values.specs.Shapes.{width, widths};
 ghost use Rattle.orc_values.specs.Views.{shape, fields as fields_view};
-ghost use Rattle.orc_json.specs.Layouts.{member_parts};
+ghost use Rattle.orc_json_printer.specs.Layouts.{member_parts};
 ghost use Rattle.orc_column_text.specs.LaidOut.{HasMembers, IsLaidOut, AreFieldsLaidOut};
 ghost use Rattle.orc_column_text.specs.Regions.{AreColumnsOf, AreMembersOf};
 
-use orc_json::layout::{FieldColumns, Layout, Member};
+use orc_json_printer::layout::{FieldColumns, Layout, Member};
 use orc_values::{Field, Tree, width_of};
 
 /// The number of columns of a type, which is one without a call where the type contains no other.

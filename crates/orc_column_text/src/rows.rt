@@ -4,16 +4,18 @@ ghost use Rattle.orc_values.specs.Cells.{Cell};
 ghost use Rattle.orc_values.specs.Shapes.{width};
 ghost use Rattle.orc_values.specs.Views.{shape};
 ghost use Rattle.orc_column_reader.specs.ReaderFaults.{CellsMeet};
-ghost use Rattle.orc_column_reader.specs.declared.fault.StripeFault.{StripeFault as Fault};
-ghost use Rattle.orc_column_reader.specs.declared.fault.StripeFault.TheVariants.{OutOfMemory};
-ghost use Rattle.orc_json.specs.Layouts.{text_by};
+ghost use Rattle.orc_directory.specs.declared.fault.StripeFault.{StripeFault as Fault};
+ghost use Rattle.orc_directory.specs.declared.fault.StripeFault.TheVariants.{OutOfMemory};
+ghost use Rattle.orc_json_printer.specs.Layouts.{text_by};
 ghost use Rattle.orc_column_text.specs.LaidOut.{IsLaidOut};
 ghost use Rattle.orc_column_text.specs.Taken.{RowsLeft, GaveText, GivesText};
 
 use crate::cells::push_cell;
-use orc_column_reader::{ColumnReader, StripeFault, cells_end};
-use orc_json::TextOutput;
-use orc_json::layout::Layout;
+use orc_column_reader::ColumnReader;
+use orc_directory::StripeFault;
+use orc_json_printer::TextOutput;
+use orc_json_printer::layout::Layout;
+use orc_row_reader::cells_end;
 use orc_values::Tree;
 
 /// Puts the text of the next of so many rows that are left, by a layout of their type, and says whether there was one.

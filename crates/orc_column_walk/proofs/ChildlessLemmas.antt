@@ -1,5 +1,5 @@
 -- What a cell without its children keeps, and that a column's own streams spell it.
-use Rattle.std.proofs.Common.{◌≡◌, ◌≤◌, ℕ, pos, List, [], ◌∷◌, map, length, replicate, sum, refl, sym, ap, ◌∙◌, subst, arith, length-append}
+use Rattle.std.proofs.Common.{◌≡◌, ◌≤◌, ℕ, pos, List, [], ◌∷◌, map, length, replicate, sum, refl, sym, ap, subst, arith, length-append}
 use Rattle.std.specs.List.{flat_map}
 use Rattle.std.proofs.lemmas.List.{length-map}
 use Rattle.orc_rle.specs.declared.sign.Sign.TheVariants.{Unsigned}
@@ -10,10 +10,11 @@ use Rattle.orc_values.specs.declared.kind.Scalar.{Scalar}
 use Rattle.orc_values.proofs.Childless.{marks_childless, values_childless, list_size, map_size}
 use Rattle.orc_column_reader.specs.Numbers.{AreNumbers}
 use Rattle.orc_column_reader.specs.Spellings.{size}
-use Rattle.orc_column_reader.specs.Stripe.{Streams, version, Marks, SpellsScalar, SpellsValues, IsColumn, most_cells}
-use Rattle.orc_column_reader.proofs.FirstLemmas.{sum_more}
+use Rattle.orc_column_reader.specs.Stripe.{Streams, version, Marks, SpellsScalar, SpellsValues, IsColumn}
+use Rattle.orc_values.specs.Limits.{most_cells}
 use Rattle.orc_values.specs.Childless.{list_of_size, map_of_size, childless_struct, childless}
 use Rattle.orc_column_walk.specs.OwnColumns.{SpellsOwnValues, IsOwnColumn, elements_together, pairs_together}
+use Rattle.orc_values.proofs.Lists.{sum_more}
 
 -- ---- sizes
 
@@ -40,9 +41,6 @@ pairs_childless k v o (pairs x ∷ cs) h =
     let a = length-append (pairs_in (map_of_size n)) (flat_map pairs_in (values (map childless cs))) in
     let b = length-append (list_of_pairs x) (flat_map pairs_in (values cs)) in
     omega (arith, a, b, map_size n, pairs_childless k v o cs h.1)
-
-pub structs_childless : (cs : List Cell) → length (values (map childless cs)) ≡ length (values cs)
-structs_childless cs = ap length (values_childless cs) ∙ length-map (values cs) childless
 
 -- so many keys, and so many values, as pairs
 pub keys_long : (vs : List Cell) → length (flat_map keys_in vs) ≡ length (flat_map pairs_in vs)

@@ -1,21 +1,20 @@
 -- What is found of a column's own cells is found of the cells of the rows.
-use Rattle.std.proofs.Common.{◌≡◌, ℕ, zero, suc, ◌+◌, ◌<◌, true, ltb, List, [], ◌∷◌, length, map, min, take, drop, refl, sym, ap, ◌∙◌, subst, arith}
-use Rattle.std.specs.List.{AllByRecursion, flat_map, drop-map}
+use Rattle.std.proofs.Common.{◌≡◌, ℕ, suc, ◌+◌, ◌<◌, true, ltb, List, length, map, min, take, drop, refl, ap, ◌∙◌, subst, arith}
+use Rattle.std.specs.List.{flat_map, drop-map}
 use Rattle.std.proofs.lemmas.Bool.{lt-ltb}
 use Rattle.std.proofs.lemmas.List.{length-map, take-map}
-use Rattle.std.proofs.lemmas.List.Sums.{sum_by-cons}
-use Rattle.orc_values.specs.Cells.{Cell, null, leaf, bool, int, date, text, bytes, list, struct, pairs, parts, keys_in, values}
+use Rattle.orc_values.specs.Cells.{Cell, parts, keys_in, values}
 use Rattle.orc_values.specs.Childless.{childless}
 use Rattle.orc_values.specs.Columns.{cells}
 use Rattle.orc_values.specs.Fits.{fits, RowsFit}
 use Rattle.orc_values.specs.Shapes.{Shape, scalar, list_of, map_of, struct_of, width, shape_at}
 use Rattle.orc_values.proofs.Deeper.{at_within, width_pos, cells-add, cells-zero}
 use Rattle.orc_values.proofs.Together.{cells_fit}
-use Rattle.orc_column_reader.specs.Stripe.{Streams, SpellRows, cell_limit}
-use Rattle.orc_row_index.specs.Bounds.{bound_at, before_group, group_of, elements_before, pairs_before, values_before}
-use Rattle.orc_row_index.specs.Positions.{octets_in, octets}
-use Rattle.orc_row_index.specs.Walking.{AreCounted, most}
-use Rattle.orc_row_index.specs.declared.counts.Counts.{Counts}
+use Rattle.orc_column_reader.specs.Stripe.{Streams, SpellRows}
+use Rattle.orc_values.specs.Limits.{cell_limit}
+use Rattle.orc_row_groups.specs.Bounds.{bound_at, before_group, group_of, elements_before, pairs_before, values_before}
+use Rattle.orc_row_groups.specs.Counts.{AreCounted, most}
+use Rattle.orc_row_groups.specs.declared.counts.Counts.{Counts}
 use Rattle.orc_stats.specs.Kinds.{kind_of}
 use Rattle.orc_stats.specs.Statistics.{stat}
 use Rattle.orc_column_walk.specs.ColumnFound.{bounds_below, IsGroupFound, IsColumnFound}
@@ -23,9 +22,12 @@ use Rattle.orc_column_walk.specs.OwnColumns.{IsOwnColumn, elements_together, pai
 use Rattle.orc_column_walk.specs.OwnLeft.{children}
 use Rattle.orc_column_walk.specs.declared.found.ColumnFound.{ColumnFound}
 use Rattle.orc_column_walk.specs.declared.found.GroupFound.{GroupFound}
-use Rattle.orc_column_walk.proofs.ChildlessLemmas.{HasRoom, own_of, elements_childless, pairs_childless, structs_childless, keys_long}
+use Rattle.orc_column_walk.proofs.ChildlessLemmas.{HasRoom, own_of, elements_childless, pairs_childless, keys_long}
 use Rattle.orc_column_walk.proofs.OneOwn.{one_column}
 use Rattle.orc_column_walk.proofs.StatChildless.{stat_childless}
+use Rattle.orc_values.proofs.Lists.{all_take, map_same}
+use Rattle.orc_values.proofs.Childless.{values_many}
+use Rattle.orc_row_groups.proofs.OctetLemmas.{octets_many}
 
 -- ---- groups
 
@@ -43,27 +45,11 @@ group_childless cs bounds g =
 
 -- ---- what comes before a group
 
-octets_one : (c : Cell) → octets_in (childless c) ≡ octets_in c
-octets_one null = refl
-octets_one (leaf (bool b)) = refl
-octets_one (leaf (int n)) = refl
-octets_one (leaf (date n)) = refl
-octets_one (leaf (text t)) = refl
-octets_one (leaf (bytes t)) = refl
-octets_one (list x) = refl
-octets_one (struct x) = refl
-octets_one (pairs x) = refl
-
-octets_childless : (cs : List Cell) → octets (map childless cs) ≡ octets cs
-octets_childless [] = refl
-octets_childless (c ∷ cs) =
-    sum_by-cons octets_in (childless c) (map childless cs) ∙ (λ i. octets_one c i + octets_childless cs i) ∙ sym (sum_by-cons octets_in c cs)
-
 counted_childless : (counts : Counts) (cs : List Cell) → AreCounted counts (map childless cs) → AreCounted counts cs
 counted_childless counts cs h = record {
   cells_are = h.cells_are ∙ length-map cs childless;
-  values_are = h.values_are ∙ structs_childless cs;
-  octets_are = h.octets_are ∙ ap (λ n. min most n) (octets_childless cs);
+  values_are = h.values_are ∙ values_many cs;
+  octets_are = h.octets_are ∙ ap (λ n. min most n) (octets_many cs);
 }
 
 group_found : (s : Shape) (cs : List Cell) (bounds : List ℕ) (g : ℕ) (f : GroupFound) → IsGroupFound s (map childless cs) bounds g f → IsGroupFound s cs bounds g f
@@ -74,29 +60,20 @@ group_found s cs bounds g f h = record {
 
 -- ---- one level down
 
-all_front : {X : Type 0} (P : X → Type 0) (n : ℕ) (xs : List X) → AllByRecursion P xs → AllByRecursion P (take n xs)
-all_front P zero xs h = tt
-all_front P (suc n) [] h = tt
-all_front P (suc n) (x ∷ xs) h = (h.0, all_front P n xs h.1)
-
-map_same : {X Y : Type 0} (f g : X → Y) (xs : List X) → ((x : X) → f x ≡ g x) → map f xs ≡ map g xs
-map_same f g [] e = refl
-map_same f g (x ∷ xs) e = let r = map_same f g xs e in λ i. e x i ∷ r i
-
 elements_kept : (s : Shape) (o : List ℕ) (cs : List Cell) (n : ℕ) → RowsFit (list_of s o) cs → elements_before (map childless cs) n ≡ elements_before cs n
-elements_kept s o cs n fit = ap elements_together (take-map childless n cs) ∙ elements_childless s o (take n cs) (all_front (λ c. fits c (list_of s o) ≡ true) n cs fit)
+elements_kept s o cs n fit = ap elements_together (take-map childless n cs) ∙ elements_childless s o (take n cs) (all_take (λ c. fits c (list_of s o) ≡ true) n cs fit)
 
 pairs_kept : (k v : Shape) (o : List ℕ) (cs : List Cell) (n : ℕ) → RowsFit (map_of k v o) cs → pairs_before (map childless cs) n ≡ pairs_before cs n
-pairs_kept k v o cs n fit = ap pairs_together (take-map childless n cs) ∙ pairs_childless k v o (take n cs) (all_front (λ c. fits c (map_of k v o) ≡ true) n cs fit)
+pairs_kept k v o cs n fit = ap pairs_together (take-map childless n cs) ∙ pairs_childless k v o (take n cs) (all_take (λ c. fits c (map_of k v o) ≡ true) n cs fit)
 
 values_kept : (cs : List Cell) (n : ℕ) → values_before (map childless cs) n ≡ values_before cs n
-values_kept cs n = ap (λ x. length (values x)) (take-map childless n cs) ∙ structs_childless (take n cs)
+values_kept cs n = ap (λ x. length (values x)) (take-map childless n cs) ∙ values_many (take n cs)
 
 below_childless : (s : Shape) (cs : List Cell) → RowsFit s cs → children s (values (map childless cs)) ≡ children s (values cs)
 below_childless (scalar k o) cs fit = refl
 below_childless (list_of s o) cs fit = elements_childless s o cs fit
 below_childless (map_of k v o) cs fit = pairs_childless k v o cs fit
-below_childless (struct_of fs o) cs fit = structs_childless cs
+below_childless (struct_of fs o) cs fit = values_many cs
 
 bounds_childless : (s : Shape) (cs : List Cell) (bounds : List ℕ) → RowsFit s cs → bounds_below s (map childless cs) bounds ≡ bounds_below s cs bounds
 bounds_childless (scalar k o) cs bounds fit = refl

@@ -3,7 +3,7 @@ use Rattle.std.proofs.Common.{◌≡◌, ◌<◌, ◌≤◌, ◌^◌, ℕ, zero,
 use Rattle.std.specs.Prelude.{slice_get}
 use Rattle.std.proofs.Math.ListN.{get_or-map}
 use Rattle.std.proofs.lemmas.Grind.{get_or_default_zero}
-use Rattle.std.proofs.lemmas.List.{take_all, drop_all, length-take, get_or_past, take-append-drop}
+use Rattle.std.proofs.lemmas.List.{take_all, drop_all, length-take, take-append-drop}
 use Rattle.std.specs.List.{flat_map}
 use Rattle.orc_values.specs.Cells.{Cell, parts, pairs_in, values}
 use Rattle.orc_values.specs.Shapes.{Shape, scalar, list_of, map_of, struct_of}
@@ -11,25 +11,27 @@ use Rattle.orc_values.proofs.Together.{values-append}
 use Rattle.orc_column_reader.specs.Fronts.{Leaves, Lacks}
 use Rattle.orc_column_reader.specs.ReaderFaults.{ValuesMeet}
 use Rattle.orc_column_reader.specs.declared.column.ValueSource.{ValueSource}
-use Rattle.orc_column_reader.specs.declared.fault.StripeFault.{StripeFault}
+use Rattle.orc_directory.specs.declared.fault.StripeFault.{StripeFault}
 use Rattle.orc_column_reader.proofs.Fronts.{one_after_other, lacks_after, lacks_more}
-use Rattle.orc_row_index.specs.Bounds.{AreBounds, bound_at, before_group, group_of, values_before}
-use Rattle.orc_row_index.specs.Walking.{AreCounted, most}
-use Rattle.orc_row_index.proofs.Groups.{bound_within, bound_up, cells_between, group_between, found_more}
+use Rattle.orc_row_groups.specs.Bounds.{AreBounds, bound_at, before_group, group_of, values_before}
+use Rattle.orc_row_groups.specs.Counts.{AreCounted, most}
+use Rattle.orc_row_groups.proofs.Groups.{bound_within, bound_up, cells_between, group_between, found_more}
 use Rattle.orc_stats.specs.Kinds.{kind_of}
 use Rattle.orc_stats.specs.Statistics.{stat}
 use Rattle.orc_stats.specs.Tallies.{Measure, Kept, together, cells_kept, none_kept, stat_of_kept}
-use Rattle.orc_stats.specs.TallyLaws.{together_none, cells_kept-append}
+use Rattle.orc_stats.specs.laws.TallyLaws.{together_none, cells_kept-append}
 use Rattle.orc_column_walk.specs.ColumnFound.{bounds_below, IsGroupFound, IsColumnFound}
 use Rattle.orc_column_walk.specs.OwnLeft.{OwnValuesLeft, children}
-use Rattle.orc_column_walk.specs.Passed.{IsPassed, HasValues, AreValueBounds, AreGroupsFound, IsCounted, children_before}
+use Rattle.orc_column_walk.specs.Passed.{IsPassed, HavePassedValues, AreValueBounds, AreGroupsFound, AreGroupsCounted, children_before}
 use Rattle.orc_column_walk.specs.declared.found.ColumnFound.{ColumnFound}
 use Rattle.orc_column_walk.specs.declared.found.GroupFound.{GroupFound}
 use Rattle.orc_column_walk.specs.declared.passed.Passed.{Passed}
 use Rattle.orc_column_walk.proofs.PassedLemmas.{ValuesMet, children_append}
-use Rattle.orc_column_walk.proofs.KeptLemmas.{few_values}
 use Rattle.orc_column_walk.proofs.RowsOf.{elements_sum, pairs_sum}
 use Rattle.orc_column_walk.proofs.ReadLemmas.{AreRead, none_read}
+use Rattle.orc_values.proofs.Lists.{values_few}
+use Rattle.orc_row_groups.proofs.BoundLemmas.{bound_past}
+use Rattle.orc_row_groups.specs.declared.counts.Counts.{Counts}
 
 -- ---- lists
 
@@ -208,9 +210,6 @@ fewer_values count bounds values_count value_bounds (suc group) are of =
 
 -- ---- all groups
 
-pub bound_past : (count : ℕ) (bounds : List ℕ) (group : ℕ) → length bounds ≤ group → bound_at count bounds group ≡ count
-bound_past count bounds group le = get_or_past bounds group count le
-
 pub lacks_group : {P : Type 0} (m : Measure P) (s : Shape) (before between : ValueSource) (count : ℕ) (bounds : List ℕ) (values_count : ℕ) (value_bounds : List ℕ) (group part : ℕ) (whole : Kept P) (passed : Passed) (groups : List GroupFound) (below : List ℕ)
     → GroupsRead m s before between count bounds values_count value_bounds group whole passed groups below → AreBounds values_count value_bounds
     → part ≡ bound_at values_count value_bounds (group + 1) - bound_at values_count value_bounds group → Lacks (OwnValuesLeft s between) part → Lacks (OwnValuesLeft s before) values_count
@@ -232,7 +231,7 @@ pub groups_all : {P : Type 0} (m : Measure P) (s : Shape) (before after : ValueS
     → ((cs : List Cell) → length cs ≤ 2 ^ 62 → stat_of_kept m (cells_kept m cs) ≡ stat (kind_of s) cs) → count ≤ 2 ^ 62
     → found.stat ≡ stat_of_kept m whole → found.below ≡ passed.children
     → (read : List Cell) × (length read ≡ values_count) × Leaves (OwnValuesLeft s before) (OwnValuesLeft s after) read
-    × ((cells : List Cell) → HasValues count bounds value_bounds read cells → IsCounted s cells bounds found)
+    × ((cells : List Cell) → HavePassedValues count bounds value_bounds read cells → AreGroupsCounted s cells bounds found)
 groups_all m s before after count bounds values_count value_bounds group whole passed found r last as_many are_stat few stat_is below_is =
     let at = bound_at count bounds group in
     let end : at ≡ count = bound_past count bounds group (omega (arith, last)) in (
@@ -279,9 +278,9 @@ bounds_below_is (map_of k v o) cells bounds = refl
 bounds_below_is (struct_of fs o) cells bounds = refl
 
 pub counted_found : (s : Shape) (a : ValueSource) (read cells : List Cell) (bounds : List ℕ) (found : ColumnFound) → a.room ≤ most → length cells ≤ most → values cells ≡ read → OwnValuesLeft s a read
-    → IsCounted s cells bounds found → IsColumnFound s cells bounds found
+    → AreGroupsCounted s cells bounds found → IsColumnFound s cells bounds found
 counted_found s a read cells bounds found room few is left h =
-    let many : children s (values cells) ≤ most = subst (λ cs. children s cs ≤ most) (sym is) (few_children s a read room (omega (arith, few, few_values cells, ap length is)) left) in
+    let many : children s (values cells) ≤ most = subst (λ cs. children s cs ≤ most) (sym is) (few_children s a read room (omega (arith, few, values_few cells, ap length is)) left) in
     record {
       stat_is = h.stat_is;
       counted = h.groups_are.counted;
@@ -289,3 +288,8 @@ counted_found s a read cells bounds found room few is left h =
       below_is = omega (arith, h.below_is, many);
       bounds_are = h.bounds_are ∙ exact_before s cells bounds many ∙ bounds_below_is s cells bounds;
     }
+
+pub mapped_get : (groups : List GroupFound) (g : ℕ) (k : Counts) → slice_get (map (λ (group : GroupFound). group.before) groups) g ≡ Some k → (group : GroupFound) × (slice_get groups g ≡ Some group) × (group.before ≡ k)
+mapped_get [] g k h = cc
+mapped_get (x ∷ xs) zero k h = (x, refl, cc)
+mapped_get (x ∷ xs) (suc g) k h = mapped_get xs g k h

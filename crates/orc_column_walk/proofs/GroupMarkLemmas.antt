@@ -10,14 +10,16 @@ use Rattle.orc_values.specs.Trues.{trues}
 use Rattle.orc_column_reader.specs.Columns.{MarksLeft}
 use Rattle.orc_column_reader.specs.Fronts.{Leaves, Lacks}
 use Rattle.orc_column_reader.specs.declared.bits.Bits.{Bits}
-use Rattle.orc_column_reader.specs.declared.fault.StripeFault.{StripeFault}
+use Rattle.orc_directory.specs.declared.fault.StripeFault.{StripeFault}
 use Rattle.orc_column_reader.proofs.Fronts.{length-values, one_after_other, lacks_after, lacks_more}
-use Rattle.orc_row_index.specs.Bounds.{AreBounds, bound_at, values_before}
-use Rattle.orc_row_index.proofs.Groups.{bound_within, bound_up, found_more}
+use Rattle.orc_row_groups.specs.Bounds.{AreBounds, bound_at, values_before}
+use Rattle.orc_row_groups.proofs.Groups.{bound_within, bound_up, found_more}
 use Rattle.orc_column_walk.specs.Passed.{AreValueBounds, trues_before}
-use Rattle.orc_column_walk.proofs.GroupLemmas.{fronts_same, bound_past}
-use Rattle.orc_column_walk.proofs.MarkLemmas.{PresentMet, trues_append, trues_all}
+use Rattle.orc_column_walk.proofs.GroupLemmas.{fronts_same}
+use Rattle.orc_column_walk.proofs.MarkLemmas.{PresentMet, trues_all}
 use Rattle.orc_column_walk.proofs.ReadLemmas.{AreRead, none_read}
+use Rattle.orc_values.proofs.Lists.{trues_append}
+use Rattle.orc_row_groups.proofs.BoundLemmas.{bound_past}
 
 pub record GroupMarksRead (column : ℕ) (before after : Option Bits) (count : ℕ) (bounds : List ℕ) (group values : ℕ) (found : List ℕ) : Type 0 where
   pub marks : List Bool

@@ -3,20 +3,13 @@ use Rattle.std.proofs.Common.{◌≡◌, ◌<◌, ◌≤◌, List, [], ◌∷◌
 use Rattle.std.proofs.lemmas.Bool.{cases_lt}
 use Rattle.orc_values.specs.Cells.{Cell, null, leaf, list, struct, pairs, values}
 use Rattle.orc_stats.specs.Tallies.{Measure, Kept, together, cell_kept, cells_kept}
-use Rattle.orc_stats.specs.TallyLaws.{kept_is, together_comm, together_assoc}
-
-pub few_values : (cs : List Cell) → length (values cs) ≤ length cs
-few_values [] = omega arith
-few_values (null ∷ cs) = omega (arith, few_values cs)
-few_values (leaf a ∷ cs) = omega (arith, few_values cs)
-few_values (list x ∷ cs) = omega (arith, few_values cs)
-few_values (struct x ∷ cs) = omega (arith, few_values cs)
-few_values (pairs x ∷ cs) = omega (arith, few_values cs)
+use Rattle.orc_stats.specs.laws.TallyLaws.{kept_is, together_comm, together_assoc}
+use Rattle.orc_values.proofs.Lists.{values_few}
 
 -- where there are as many values as cells, they are the cells
 pub all_values : (cs : List Cell) → length cs ≤ length (values cs) → values cs ≡ cs
 all_values [] h = refl
-all_values (null ∷ cs) h = absurd (omega (arith, h, few_values cs))
+all_values (null ∷ cs) h = absurd (omega (arith, h, values_few cs))
 all_values (leaf a ∷ cs) h = ap (λ t. leaf a ∷ t) (all_values cs (omega (arith, h)))
 all_values (list x ∷ cs) h = ap (λ t. list x ∷ t) (all_values cs (omega (arith, h)))
 all_values (struct x ∷ cs) h = ap (λ t. struct x ∷ t) (all_values cs (omega (arith, h)))

@@ -9,18 +9,14 @@ use Rattle.orc_column_reader.specs.Fronts.{Leaves}
 use Rattle.orc_column_reader.specs.RunFaults.{Always}
 use Rattle.orc_column_reader.specs.RunsMet.{MarksMeet}
 use Rattle.orc_column_reader.specs.declared.bits.Bits.{Bits}
-use Rattle.orc_column_reader.specs.declared.fault.StreamKind.TheVariants.{Present}
+use Rattle.orc_directory.specs.declared.fault.StreamKind.TheVariants.{Present}
 use Rattle.orc_column_reader.proofs.NeedLemmas.{runs_more}
 use Rattle.orc_column_walk.proofs.ReadLemmas.{Meets, AreRead, none_read, one_read}
 use Rattle.orc_values.specs.Trues.{trues}
+use Rattle.orc_values.proofs.Lists.{trues_append}
 
 abbrev pub PresentMet : ℕ → Option Bits → Meets
 PresentMet column present all n f = RunsFail Present column (Always all n (MarksMeet present)) f
-
-pub trues_append : (a b : List Bool) → trues (a ++ b) ≡ trues a + trues b
-trues_append [] b = omega arith
-trues_append (false ∷ a) b = trues_append a b
-trues_append (true ∷ a) b = omega (arith, trues_append a b)
 
 few_trues : (b : Bool) → trues (b ∷ []) ≤ 1
 few_trues true = omega arith

@@ -14,11 +14,11 @@ use Rattle.orc_column_reader.specs.Numbers.{NumbersLeft}
 use Rattle.orc_column_reader.specs.ReaderFaults.{ListsMeet, ValuesMeet}
 use Rattle.orc_column_reader.specs.declared.column.ColumnReader.{ColumnReader}
 use Rattle.orc_column_reader.specs.declared.column.ValueSource.{ValueSource}
-use Rattle.orc_column_reader.specs.declared.fault.StripeFault.{StripeFault}
-use Rattle.orc_column_reader.proofs.FirstLemmas.{sum_more}
+use Rattle.orc_directory.specs.declared.fault.StripeFault.{StripeFault}
 use Rattle.orc_column_walk.specs.OwnLeft.{SizesLeft, SizedLeft, OwnValuesLeft, children}
 use Rattle.orc_column_walk.proofs.RowsOf.{elements_sum, pairs_sum}
 use Rattle.orc_column_walk.proofs.SizeLemmas.{sizes_leave, sizes_lack}
+use Rattle.orc_values.proofs.Lists.{sum_more}
 
 -- a type of that kind
 pub is_scalar : (tree : Tree) (k : Kind) (o : Vec ℕ Global) (which : Kind) → tree ≡ TreeScalar k o → k ≡ which → shape tree ≡ scalar which o.items

@@ -1,41 +1,19 @@
 -- The streams of a column spell at most one list of so many cells by themselves, and so do all columns down a schema.
-use Rattle.std.proofs.Common.{◌≡◌, ℕ, zero, suc, ◌+◌, ◌-◌, ◌<◌, pos, Bool, List, [], ◌∷◌, map, length, replicate, refl, sym, ap, ◌∙◌, subst, arith, inl, inr}
+use Rattle.std.proofs.Common.{◌≡◌, ℕ, zero, suc, ◌+◌, ◌-◌, ◌<◌, pos, List, map, length, replicate, sym, ap, ◌∙◌, subst, arith, inl, inr}
 use Rattle.std.proofs.lemmas.Bool.{cases_lt}
-use Rattle.std.proofs.lemmas.List.{length-map}
 use Rattle.orc_rle.specs.declared.sign.Sign.TheVariants.{Unsigned}
 use Rattle.orc_rle.proofs.StreamLemmas.{one_stream}
-use Rattle.orc_values.specs.Cells.{Cell, is_value, values}
+use Rattle.orc_values.specs.Cells.{Cell, values}
 use Rattle.orc_values.specs.Shapes.{Shape, scalar, list_of, map_of, struct_of, Fields, no_field, field, width, widths}
 use Rattle.orc_column_reader.specs.Numbers.{is_run}
-use Rattle.orc_column_reader.specs.Spellings.{Nullable}
 use Rattle.orc_column_reader.specs.Stripe.{Streams, version, Marks}
-use Rattle.orc_column_reader.proofs.Fronts.{same_cells, length-values}
-use Rattle.orc_column_reader.proofs.BitsLemmas.{one_bit_stream}
 use Rattle.orc_column_reader.proofs.NumbersLemmas.{laws_of}
-use Rattle.orc_column_reader.proofs.OneRows.{One, one_cells}
+use Rattle.orc_column_reader.proofs.OneRows.{One, one_cells, one_marks, one_nullable}
 use Rattle.orc_values.specs.Childless.{list_of_size, map_of_size, childless_struct}
-use Rattle.orc_values.specs.Trues.{trues}
 use Rattle.orc_column_walk.specs.OwnColumns.{SpellsSizes, IsOwnColumn, AreOwnColumns, AreOwnFields, elements_together, pairs_together}
+use Rattle.orc_values.proofs.Lists.{pos_same}
 
 -- ---- one column
-
-pub one_marks : (bytes : List ℕ) → One (Marks bytes)
-one_marks [] a b p q l = p ∙ (rw l refl ∙ sym q)
-one_marks (x ∷ bytes) a b p q l = one_bit_stream (x ∷ bytes) a b l p q
-
-one_nullable : (marks : List Bool → Type 0) (found : List Cell → Type 0) → One marks → One found → One (Nullable marks found)
-one_nullable marks found m f a b p q l =
-    let e = m (map is_value a) (map is_value b) p.0 q.0 (length-map a is_value ∙ l ∙ sym (length-map b is_value)) in
-    same_cells a b e (f (values a) (values b) p.1 q.1 (length-values a ∙ ap trues e ∙ sym (length-values b)))
-
-pos_same : (a b : List ℕ) → map pos a ≡ map pos b → a ≡ b
-pos_same [] [] e = refl
-pos_same [] (y ∷ b) e = cc
-pos_same (x ∷ a) [] e = cc
-pos_same (x ∷ a) (y ∷ b) e =
-    let h : x ≡ y = cc in
-    let t : map pos a ≡ map pos b = cc in
-    let r = pos_same a b t in λ i. h i ∷ r i
 
 one_sizes : (sized : ℕ → Cell) (x : Streams) → One (SpellsSizes sized x)
 one_sizes sized x a b p q l =

@@ -8,13 +8,16 @@ use Rattle.orc_values.specs.Fits.{RowsFit}
 use Rattle.orc_values.specs.Shapes.{Shape, scalar, list_of, map_of, struct_of, Fields, no_field, field, width, widths, shape_at, shape_within}
 use Rattle.orc_values.proofs.Together.{StructsFit, elements_fit, keys_fit, values_fit, structs_fit, heads_fit, tails_fit, heads-length}
 use Rattle.std.proofs.lemmas.List.{length-map}
-use Rattle.orc_column_reader.specs.Stripe.{Streams, IsColumn, SpellRows, most_cells}
-use Rattle.orc_column_reader.proofs.ByNumber.{to_number, first_cells, wide}
+use Rattle.orc_column_reader.specs.Stripe.{Streams, IsColumn, SpellRows}
+use Rattle.orc_values.specs.Limits.{most_cells}
+use Rattle.orc_column_reader.proofs.ByNumber.{to_number}
 use Rattle.orc_values.specs.Childless.{childless}
 use Rattle.orc_column_walk.specs.OwnColumns.{AreOwnColumns, AreOwnFields, elements_together, pairs_together, OwnDown}
-use Rattle.orc_column_walk.proofs.ChildlessLemmas.{own_of, elements_childless, pairs_childless, structs_childless, keys_long, map_values_long}
+use Rattle.orc_column_walk.proofs.ChildlessLemmas.{own_of, elements_childless, pairs_childless, keys_long, map_values_long}
 use Rattle.orc_column_walk.proofs.OneOwn.{own_same, fields_same, one_own}
 use Rattle.orc_column_walk.proofs.RowsOf.{own_down, rows_down}
+use Rattle.orc_values.proofs.Deeper.{width_pos, cells-zero}
+use Rattle.orc_values.proofs.Childless.{values_many}
 
 -- each column of a type spells its cells in the rows
 abbrev Spelled : Shape → (ℕ → Streams) → List Cell → Type 0
@@ -77,14 +80,14 @@ kept_other name s fs structs c =
 -- the columns below are few
 few_elements : (s : Shape) (o : List ℕ) (x : ℕ → Streams) (rows : List Cell) → Spelled (list_of s o) x rows → elements_together rows ≤ most_cells
 few_elements s o x rows h =
-    let w = wide s in
+    let w = width_pos s in
     let few = (h 1 (omega (arith, w))).few in
-    omega (arith, few, ap length (first_cells s (flat_map parts (values rows))))
+    omega (arith, few, ap length (cells-zero s (flat_map parts (values rows))))
 
 few_pairs : (k v : Shape) (o : List ℕ) (x : ℕ → Streams) (rows : List Cell) → Spelled (map_of k v o) x rows → pairs_together rows ≤ most_cells
 few_pairs k v o x rows h =
-    let few = (key_column k v o x rows h 0 (wide k)).few in
-    omega (arith, few, ap length (first_cells k (flat_map keys_in (values rows))), keys_long (values rows))
+    let few = (key_column k v o x rows h 0 (width_pos k)).few in
+    omega (arith, few, ap length (cells-zero k (flat_map keys_in (values rows))), keys_long (values rows))
 
 -- ---- down the schema
 
@@ -109,7 +112,7 @@ mutual
   kept_own (struct_of fs o) x rows fit h =
       let below = kept_fields fs (λ c. x (suc c)) (map parts (values rows)) (structs_fit fs o rows fit) (λ c lt. h (suc c) (omega (arith, lt))) in (
         own_of (struct_of fs o) (x 0) rows fit tt (h 0 (omega arith)),
-        subst (AreOwnFields fs (λ c. x (suc c)) (kept_within fs (map parts (values rows)))) (length-map (values rows) parts ∙ sym (structs_childless rows)) below,
+        subst (AreOwnFields fs (λ c. x (suc c)) (kept_within fs (map parts (values rows)))) (length-map (values rows) parts ∙ sym (values_many rows)) below,
       )
 
   kept_fields : (fs : Fields) (x : ℕ → Streams) (structs : List (List Cell)) → StructsFit fs structs → SpelledWithin fs x structs → AreOwnFields fs x (kept_within fs structs) (length structs)

@@ -6,20 +6,20 @@ use Rattle.std.proofs.lemmas.List.Concat.{flat_map-append}
 use Rattle.orc_values.specs.Cells.{Cell, null, leaf, list, struct, pairs, is_value, parts, pairs_in, values}
 use Rattle.orc_values.specs.Shapes.{Shape, scalar, list_of, map_of, struct_of}
 use Rattle.orc_values.proofs.Together.{values-append}
-use Rattle.orc_row_index.specs.Positions.{octets_in, octets}
-use Rattle.orc_row_index.specs.Walking.{most}
-use Rattle.orc_row_index.proofs.ColumnPlaces.{counted_more, octets_of_values}
+use Rattle.orc_row_groups.specs.Counts.{octets_in, octets, most}
+use Rattle.orc_row_groups.proofs.Counted.{counted_more, octets_of_values}
 use Rattle.orc_column_walk.specs.OwnLeft.{children}
 use Rattle.orc_column_walk.specs.Passed.{IsPassed}
 use Rattle.orc_column_walk.specs.declared.passed.Passed.{Passed}
 use Rattle.orc_column_reader.specs.Fronts.{Leaves}
 use Rattle.orc_column_reader.specs.ReaderFaults.{ValuesMeet}
 use Rattle.orc_column_reader.specs.declared.column.ValueSource.{ValueSource}
-use Rattle.orc_column_reader.specs.declared.fault.StripeFault.{StripeFault}
+use Rattle.orc_directory.specs.declared.fault.StripeFault.{StripeFault}
 use Rattle.orc_stats.specs.Tallies.{Measure, Kept, together, cell_kept, cells_kept}
-use Rattle.orc_stats.specs.TallyLaws.{together_assoc, none_together, cells_kept-append}
+use Rattle.orc_stats.specs.laws.TallyLaws.{together_assoc, none_together, cells_kept-append}
 use Rattle.orc_column_walk.specs.OwnLeft.{OwnValuesLeft}
 use Rattle.orc_column_walk.proofs.ReadLemmas.{Meets, AreRead, none_read, one_read}
+use Rattle.orc_values.proofs.Lists.{values_one}
 
 -- ---- children
 
@@ -53,13 +53,6 @@ passed_more s before after front cs h cells_are values_are octets_are children_a
   children_are = children_are ∙ most_more (children s (values front)) (children s (values cs)) before.children h.children_are
       ∙ ap (λ n. min most n) (sym (children_append s (values front) (values cs)) ∙ ap (children s) (sym (values-append front cs)));
 }
-
-pub value_alone : (c : Cell) → is_value c ≡ true → values (c ∷ []) ≡ c ∷ []
-value_alone null h = cc
-value_alone (leaf a) h = refl
-value_alone (list x) h = refl
-value_alone (struct x) h = refl
-value_alone (pairs x) h = refl
 
 pub octets_alone : (c : Cell) → octets (c ∷ []) ≡ octets_in c
 octets_alone c = sum_by-cons octets_in c [] ∙ omega arith
@@ -134,7 +127,7 @@ pub value_counted : {P : Type 0} (m : Measure P) (s : Shape) (before between aft
 value_counted m s before between after count old mid new start now next c r leave value fault kept passed cells_are values_are = record {
   cells = r.cells ++ c ∷ [];
   read = one_read (OwnValuesLeft s before) (OwnValuesLeft s between) (OwnValuesLeft s after) (ValuesMet s before) (ValuesMet s between) (ValuesMet s after) count r.cells c r.read leave fault;
-  all = values-append r.cells (c ∷ []) ∙ (λ i. r.all i ++ value_alone c value i);
+  all = values-append r.cells (c ∷ []) ∙ (λ i. r.all i ++ values_one c value i);
   kept = kept ∙ ap (λ k. together m k (cell_kept m c)) r.kept ∙ together_assoc m old (cells_kept m r.cells) (cell_kept m c)
       ∙ ap (together m old) (ap (together m (cells_kept m r.cells)) (sym (none_together m (cell_kept m c))) ∙ sym (cells_kept-append m r.cells (c ∷ [])));
   passed = λ front h. subst (λ cs. IsPassed s cs next) (append_assoc front r.cells (c ∷ [])) (passed (front ++ r.cells) (r.passed front h));

@@ -11,9 +11,9 @@ use Rattle.orc_column_reader.specs.Faults.{FaultBelow, FaultWithin, FaultDown, R
 use Rattle.orc_column_reader.specs.Needs.{MarksBegin, ValuesNeeded, ElementsNeeded}
 use Rattle.orc_column_reader.specs.Numbers.{is_run}
 use Rattle.orc_column_reader.specs.RunFaults.{Needed, IntegersFirst}
-use Rattle.orc_column_reader.specs.Runs.{Begins}
+use Rattle.orc_column_reader.specs.Runs.{RunsBegin}
 use Rattle.orc_column_reader.specs.Stripe.{Streams, version, Marks}
-use Rattle.orc_column_reader.specs.declared.fault.StripeFault.{StripeFault}
+use Rattle.orc_directory.specs.declared.fault.StripeFault.{StripeFault}
 use Rattle.orc_column_reader.proofs.BitsLemmas.{held_bits, no_digit}
 use Rattle.orc_column_reader.proofs.Fronts.{length-values}
 use Rattle.orc_bits.specs.Packed.{digits}
@@ -27,7 +27,7 @@ use Rattle.orc_column_walk.proofs.RowsOf.{From, from_start, next_from, later_fro
 
 -- ---- what is spelled comes first
 
-whole_begins : {A : Type 0} (is_run : List ℕ → List A → Type 0) (bytes : List ℕ) (all : List A) → IsStream is_run bytes all → Begins is_run bytes all
+whole_begins : {A : Type 0} (is_run : List ℕ → List A → Type 0) (bytes : List ℕ) (all : List A) → IsStream is_run bytes all → RunsBegin is_run bytes all
 whole_begins is_run bytes all h = (bytes, [], [], sym (append-nil bytes), subst (IsStream is_run bytes) (sym (append-nil all)) h)
 
 pub marks_first : (bytes : List ℕ) (marks : List Bool) → Marks bytes marks → MarksBegin bytes marks

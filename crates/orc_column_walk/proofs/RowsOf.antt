@@ -1,20 +1,21 @@
 -- Where each column's own streams spell cells, as many as the column above has room for, there are rows that all
 -- columns spell.
-use Rattle.std.proofs.Common.{◌≡◌, ℕ, zero, suc, ◌+◌, pos, Bool, true, List, [], ◌∷◌, ◌++◌, map, length, replicate, take, drop, sum, refl, sym, ap, ◌∙◌, subst, arith, length-append, length-drop}
-use Rattle.std.specs.List.{AllByRecursion, flat_map, AllZip}
+use Rattle.std.proofs.Common.{◌≡◌, ℕ, suc, ◌+◌, pos, Bool, true, List, [], ◌∷◌, ◌++◌, map, length, replicate, take, drop, sum, refl, sym, ap, ◌∙◌, subst, arith, length-append, length-drop}
+use Rattle.std.specs.List.{flat_map, AllZip}
 use Rattle.std.proofs.lemmas.List.{length-map, length-replicate, length-take, nil_from_length, take-append-drop}
 use Rattle.orc_rle.specs.declared.sign.Sign.TheVariants.{Unsigned}
 use Rattle.orc_values.specs.Cells.{Cell, list, struct, pairs, cells_of, pairs_of, is_value, parts, pairs_in, values}
 use Rattle.orc_values.specs.Shapes.{Shape, scalar, list_of, map_of, struct_of, Fields, no_field, field, width}
 use Rattle.orc_column_reader.specs.Numbers.{AreNumbers}
-use Rattle.orc_column_reader.specs.Spellings.{Nullable, size, joined, zip_cons}
+use Rattle.orc_column_reader.specs.Spellings.{Nullable, size, concatenated, zip_cons}
 use Rattle.orc_column_reader.specs.Stripe.{Streams, version, Marks, SpellsTree, SpellsFields, SpellsCells}
-use Rattle.orc_column_reader.proofs.FirstLemmas.{sum_more}
 use Rattle.orc_column_reader.proofs.Fronts.{length-values, length-zip}
 use Rattle.orc_values.specs.Childless.{list_of_size, map_of_size}
 use Rattle.orc_column_walk.specs.OwnColumns.{IsOwnColumn, AreOwnColumns, AreOwnFields, elements_together, pairs_together, OwnBelow, OwnWithin, OwnDown}
 use Rattle.orc_values.proofs.Childless.{list_size, map_size}
 use Rattle.orc_column_walk.proofs.Spread.{AreValues, spread, spread_is}
+use Rattle.orc_values.proofs.Lists.{sum_more}
+use Rattle.orc_column_walk.proofs.SizeLemmas.{plain_empty}
 
 -- other values in the places of a column's own
 pub refilled : (marks : List Bool → Type 0) (found : List Cell → Type 0) (own vs : List Cell) (n : ℕ) → length own ≡ n → marks (map is_value own) → found vs → AreValues vs → length vs ≡ length (values own)
@@ -34,7 +35,7 @@ regroup (n ∷ ns) xs = take n xs ∷ regroup ns (drop n xs)
 
 record Regrouped {X : Type 0} (ns : List ℕ) (xs : List X) (groups : List (List X)) : Type 0 where
   sizes : map size groups ≡ map pos ns
-  all : joined groups ≡ xs
+  all : concatenated groups ≡ xs
 
 regrouped : {X : Type 0} (ns : List ℕ) (xs : List X) → length xs ≡ sum ns → Regrouped ns xs (regroup ns xs)
 regrouped [] xs e = record { sizes = refl; all = sym (nil_from_length xs (omega (arith, e))) }
@@ -104,12 +105,6 @@ zipped (x ∷ xs) [] e = absurd (omega (arith, e))
 zipped {X = X} {Y = Y} (x ∷ xs) (y ∷ ys) e =
     let r = zipped xs ys (omega (arith, e)) in
     record { firsts = ap (λ (t : List X). x ∷ t) r.firsts; seconds = ap (λ (t : List Y). y ∷ t) r.seconds }
-
--- ---- structs without fields
-
-no_fields : (n : ℕ) → AllByRecursion (λ cs. cs ≡ []) (replicate n (let none : List Cell = [] in none))
-no_fields zero = tt
-no_fields (suc n) = (refl, no_fields n)
 
 -- ---- columns by their numbers
 
@@ -234,7 +229,7 @@ mutual
       refilled (Marks ((x 0).stream 0)) (SpellsTree (struct_of fs o) x) own (map struct_with below.0) n is.counted is.spelled.0 found (all_values struct_with (λ g. refl) below.0) long
 
   structs_of : (fs : Fields) (x columns : ℕ → Streams) (c n : ℕ) → From x columns c → OwnWithin fs columns c n → (structs : List (List Cell)) × SpellsFields fs x structs × (length structs ≡ n)
-  structs_of no_field x columns c n e h = (replicate n [], no_fields n, length-replicate n [])
+  structs_of no_field x columns c n e h = (replicate n [], plain_empty n, length-replicate n [])
   structs_of (field name s fs) x columns c n e h =
       let heads = rows_of s x columns c h.0.0 n e h.0.1 h.0.2 in
       let tails = structs_of fs (λ d. x (width s + d)) columns (c + width s) n (later_from x columns c (width s) e) h.1 in

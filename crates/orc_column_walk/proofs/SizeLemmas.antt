@@ -8,13 +8,13 @@ use Rattle.orc_column_reader.specs.Columns.{CellsLeft, ListsLeft, IsRecord}
 use Rattle.orc_column_reader.specs.Fronts.{Leaves, Lacks}
 use Rattle.orc_column_reader.specs.Numbers.{NumbersLeft}
 use Rattle.orc_column_reader.specs.ReaderFaults.{ListsMeet}
-use Rattle.orc_column_reader.specs.Spellings.{size, joined}
+use Rattle.orc_column_reader.specs.Spellings.{size, concatenated}
 use Rattle.orc_column_reader.specs.declared.column.ColumnReader.{ColumnReader}
 use Rattle.orc_column_reader.specs.declared.column.ValueSource.{ValueSource}
-use Rattle.orc_column_reader.specs.declared.fault.StripeFault.{StripeFault}
-use Rattle.orc_column_reader.proofs.FirstLemmas.{sum_more}
+use Rattle.orc_directory.specs.declared.fault.StripeFault.{StripeFault}
 use Rattle.orc_column_walk.specs.OwnLeft.{SizesLeft}
 use Rattle.orc_column_walk.proofs.ReadLemmas.{AreRead, none_read, one_read}
+use Rattle.orc_values.proofs.Lists.{sum_more, sum_append}
 
 -- ---- the next size
 
@@ -43,10 +43,10 @@ plain_sizes : (sizes : List ℕ) → map size (map plain_list sizes) ≡ map pos
 plain_sizes [] = refl
 plain_sizes (n ∷ sizes) = let k = length-replicate n (struct (cells_of [])) in λ i. pos (k i) ∷ plain_sizes sizes i
 
-plain_long : (sizes : List ℕ) → length (joined (map plain_list sizes)) ≡ sum sizes
+plain_long : (sizes : List ℕ) → length (concatenated (map plain_list sizes)) ≡ sum sizes
 plain_long [] = refl
 plain_long (n ∷ sizes) =
-    omega (arith, length-append (plain_list n) (joined (map plain_list sizes)), length-replicate n (struct (cells_of [])), plain_long sizes, sum_more n sizes)
+    omega (arith, length-append (plain_list n) (concatenated (map plain_list sizes)), length-replicate n (struct (cells_of [])), plain_long sizes, sum_more n sizes)
 
 ArePlain : List Cell → Type 0
 ArePlain cells = AllByRecursion (λ c. c ≡ struct (cells_of [])) cells
@@ -61,10 +61,10 @@ unfolding ArePlain
 plain_one zero = tt
 plain_one (suc n) = (refl, plain_one n)
 
-plain_all : (sizes : List ℕ) → ArePlain (joined (map plain_list sizes))
+plain_all : (sizes : List ℕ) → ArePlain (concatenated (map plain_list sizes))
 unfolding ArePlain
 plain_all [] = tt
-plain_all (n ∷ sizes) = plain_append (plain_list n) (joined (map plain_list sizes)) (plain_one n) (plain_all sizes)
+plain_all (n ∷ sizes) = plain_append (plain_list n) (concatenated (map plain_list sizes)) (plain_one n) (plain_all sizes)
 
 plain_marks : (cells : List Cell) → ArePlain cells → map is_value cells ≡ replicate (length (map is_value cells)) true
 unfolding ArePlain
@@ -76,7 +76,7 @@ unfolding ArePlain
 plain_values [] h = tt
 plain_values (c ∷ cells) h = let e = ap is_value h.0 in rw e (h.0, plain_values cells h.1)
 
-plain_empty : (n : ℕ) → AllByRecursion (λ cs. cs ≡ []) (replicate n (let none : List Cell = [] in none))
+pub plain_empty : (n : ℕ) → AllByRecursion (λ cs. cs ≡ []) (replicate n (let none : List Cell = [] in none))
 plain_empty zero = tt
 plain_empty (suc n) = (refl, plain_empty n)
 
@@ -84,16 +84,12 @@ pub sizes_lack : (a : ValueSource) → ((below : List ColumnReader) → Lacks (L
 sizes_lack a p = λ sizes r some.
     let below : List ColumnReader = record { present = None; source = a } ∷ [] in
     let lists = map plain_list sizes in
-    let cells = joined lists in
+    let cells = concatenated lists in
     let plain = plain_all sizes in
     let left : CellsLeft (struct_of no_field []) below cells = (plain_marks cells plain, (replicate (length (values cells)) [], plain_values cells plain, plain_empty (length (values cells)))) in
     p below lists (subst (NumbersLeft a.numbers) (sym (plain_sizes sizes)) r.0, (omega (arith, r.1, plain_long sizes), left)) (omega (arith, some, length-map sizes plain_list))
 
 -- ---- sizes, one after the other
-
-sum_append : (a b : List ℕ) → sum (a ++ b) ≡ sum a + sum b
-sum_append [] b = omega arith
-sum_append (n ∷ a) b = omega (arith, sum_append a b, sum_more n a, sum_more n (a ++ b))
 
 -- so many sizes were read, and they are so much together
 pub record SizesRead (before after : ValueSource) (count together : ℕ) : Type 0 where

@@ -13,23 +13,24 @@ use Rattle.orc_column_reader.specs.ReaderFaults.{ValuesMeet}
 use Rattle.orc_column_reader.specs.RunFaults.{Always}
 use Rattle.orc_column_reader.specs.RunsMet.{MarksMeet}
 use Rattle.orc_column_reader.specs.Starting.{NumbersStart, SourceStart, OwnStart, LacksEntries, HasNoDictionary}
-use Rattle.orc_column_reader.specs.Stripe.{Streams, version, has_dictionary, Marks, SpellsScalar, SpellsTexts, most_cells, cell_limit}
+use Rattle.orc_column_reader.specs.Stripe.{Streams, version, has_dictionary, Marks, SpellsScalar, SpellsTexts}
+use Rattle.orc_values.specs.Limits.{most_cells, cell_limit}
 use Rattle.orc_column_reader.specs.declared.column.ColumnReader.{ColumnReader}
 use Rattle.orc_column_reader.specs.declared.column.ValueSource.{ValueSource}
-use Rattle.orc_column_reader.specs.declared.fault.StreamKind.TheVariants.{Present}
-use Rattle.orc_column_reader.specs.declared.fault.StripeFault.{StripeFault}
+use Rattle.orc_directory.specs.declared.fault.StreamKind.TheVariants.{Present}
+use Rattle.orc_directory.specs.declared.fault.StripeFault.{StripeFault}
 use Rattle.orc_column_reader.proofs.Fronts.{length-values}
 use Rattle.orc_column_reader.proofs.StartFaults.{marks_start, values_start}
 use Rattle.orc_column_reader.proofs.StartLemmas.{Alike, marks_alike, numbers_alike, scalar_alike}
 use Rattle.orc_values.specs.Childless.{list_of_size, map_of_size, childless_struct}
 use Rattle.orc_values.specs.Trues.{trues}
 use Rattle.orc_column_walk.specs.OwnColumns.{SpellsSizes, SpellsOwnValues, IsOwnColumn}
-use Rattle.orc_column_walk.specs.OwnFaults.{IsRefused}
+use Rattle.orc_column_walk.specs.OwnFaults.{SpellsNoCells}
 use Rattle.orc_column_walk.specs.OwnLeft.{SizesLeft, SizedLeft, OwnValuesLeft, children}
-use Rattle.orc_column_walk.proofs.OneOwn.{one_marks}
 use Rattle.orc_column_walk.proofs.RefusedLemmas.{marks_first, needed_is}
 use Rattle.orc_column_walk.proofs.RowsOf.{all_values, elements_sum, pairs_sum}
 use Rattle.orc_column_walk.proofs.Spread.{AreValues, spread, spread_is}
+use Rattle.orc_column_reader.proofs.OneRows.{one_marks}
 
 -- ---- what is spelled beside the marks are values
 
@@ -140,11 +141,11 @@ lacking (list_of s o) x vs none h = none
 lacking (map_of k v o) x vs none h = none
 lacking (struct_of fs o) x vs none h = none
 
-pub refused_entries : (s : Shape) (x : Streams) (c n : ℕ) (f : StripeFault) → HasNoDictionary s x → DictionaryFails s x c f → (all : Bool) × IsRefused s x c all n f
+pub refused_entries : (s : Shape) (x : Streams) (c n : ℕ) (f : StripeFault) → HasNoDictionary s x → DictionaryFails s x c f → (all : Bool) × SpellsNoCells s x c all n f
 refused_entries s x c n f none h = (false, record { none = λ own is. lacking s x (values own) none is.spelled.1; fault = inr (inl h) })
 
 pub refused_marks : (s : Shape) (x : Streams) (r : ColumnReader) (c n : ℕ) (f : StripeFault) → OwnStart s x r → ((marks : List Bool) → MarksLeft r.present marks → length marks ≡ n → ⊥)
-    → (all : Bool) × RunsFail Present c (Always all n (MarksMeet r.present)) f → (all : Bool) × IsRefused s x c all n f
+    → (all : Bool) × RunsFail Present c (Always all n (MarksMeet r.present)) f → (all : Bool) × SpellsNoCells s x c all n f
 refused_marks s x r c n f start none h = (
   h.0,
   record {
@@ -154,7 +155,7 @@ refused_marks s x r c n f start none h = (
 )
 
 pub refused_values : (s : Shape) (x : Streams) (r : ColumnReader) (c n v : ℕ) (marks : List Bool) (f : StripeFault) → OwnStart s x r → r.source.column ≡ c → length marks ≡ n → MarksLeft r.present marks → v ≡ trues marks
-    → ((vs : List Cell) → OwnValuesLeft s r.source vs → length vs ≡ v → ⊥) → (all : Bool) × ValuesMeet s r.source all v f → (all : Bool) × IsRefused s x c all n f
+    → ((vs : List Cell) → OwnValuesLeft s r.source vs → length vs ≡ v → ⊥) → (all : Bool) × ValuesMeet s r.source all v f → (all : Bool) × SpellsNoCells s x c all n f
 refused_values s x r c n v marks f start column long m count none h =
     let spelled = (marks_alike (x.stream 0) r.present start.0).to marks m in (
       h.0,

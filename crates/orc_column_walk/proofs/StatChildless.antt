@@ -7,8 +7,9 @@ use Rattle.orc_stats.specs.declared.kind.StatKind.{StatKind}
 use Rattle.orc_stats.specs.declared.kind.StatKind.TheVariants as kind
 use Rattle.orc_stats.specs.Statistics.{int_of, date_of, bool_of, text_of, bytes_of, children_of, values_body, has_null, stat}
 use Rattle.orc_values.specs.Childless.{childless}
-use Rattle.orc_stats.specs.OwnCells.{many_childless}
+use Rattle.orc_stats.specs.laws.OwnCells.{many_childless}
 use Rattle.orc_values.proofs.Childless.{values_childless}
+use Rattle.orc_stats.proofs.Childless.{bool_childless}
 
 picked_childless : {A : Type 0} (pick : Cell → Option A) → ((c : Cell) → pick (childless c) ≡ pick c) → (cs : List Cell) → filter_map pick (map childless cs) ≡ filter_map pick cs
 picked_childless pick one [] = refl
@@ -27,13 +28,6 @@ date_childless (leaf a) = refl
 date_childless (list x) = refl
 date_childless (struct x) = refl
 date_childless (pairs x) = refl
-
-bool_childless : (c : Cell) → bool_of (childless c) ≡ bool_of c
-bool_childless null = refl
-bool_childless (leaf a) = refl
-bool_childless (list x) = refl
-bool_childless (struct x) = refl
-bool_childless (pairs x) = refl
 
 text_childless : (c : Cell) → text_of (childless c) ≡ text_of c
 text_childless null = refl

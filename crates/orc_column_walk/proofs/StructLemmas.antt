@@ -8,12 +8,11 @@ use Rattle.orc_values.specs.Cells.{Cell, null, leaf, list, struct, pairs, is_val
 use Rattle.orc_values.specs.Childless.{childless_struct}
 use Rattle.orc_values.specs.Shapes.{Shape, Fields, struct_of}
 use Rattle.orc_values.proofs.Together.{values-append}
-use Rattle.orc_row_index.specs.Bounds.{AreBounds, bound_at, before_group, group_of, values_before}
-use Rattle.orc_row_index.specs.Positions.{octets_in, octets}
-use Rattle.orc_row_index.specs.Walking.{AreCounted, most}
-use Rattle.orc_row_index.specs.declared.counts.Counts.{Counts}
-use Rattle.orc_row_index.proofs.ColumnPlaces.{octets_of_values}
-use Rattle.orc_row_index.proofs.Groups.{bound_within, bound_up, cells_between, group_between}
+use Rattle.orc_row_groups.specs.Bounds.{AreBounds, bound_at, before_group, group_of, values_before}
+use Rattle.orc_row_groups.specs.Counts.{octets_in, octets, AreCounted, most}
+use Rattle.orc_row_groups.specs.declared.counts.Counts.{Counts}
+use Rattle.orc_row_groups.proofs.Counted.{octets_of_values}
+use Rattle.orc_row_groups.proofs.Groups.{bound_within, bound_up, cells_between, group_between}
 use Rattle.orc_stats.specs.declared.kind.StatKind.TheVariants as kind
 use Rattle.orc_stats.specs.declared.stat.Stat.{Stat}
 use Rattle.orc_stats.specs.declared.stat.Body.TheVariants as body
@@ -22,11 +21,12 @@ use Rattle.orc_stats.specs.Statistics.{stat, has_null}
 use Rattle.orc_column_walk.specs.ColumnFound.{IsGroupFound, IsColumnFound}
 use Rattle.orc_column_reader.specs.declared.column.ValueSource.{ValueSource}
 use Rattle.orc_column_walk.specs.OwnLeft.{OwnValuesLeft}
-use Rattle.orc_column_walk.specs.Passed.{HasValues, AreValueBounds, AreGroupsFound}
+use Rattle.orc_column_walk.specs.Passed.{HavePassedValues, AreValueBounds, AreGroupsFound}
 use Rattle.orc_column_walk.specs.declared.found.ColumnFound.{ColumnFound}
 use Rattle.orc_column_walk.specs.declared.found.GroupFound.{GroupFound}
-use Rattle.orc_column_walk.proofs.GroupLemmas.{values_at, bound_past, pushed_get}
-use Rattle.orc_column_walk.proofs.KeptLemmas.{few_values}
+use Rattle.orc_column_walk.proofs.GroupLemmas.{values_at, pushed_get}
+use Rattle.orc_values.proofs.Lists.{values_few}
+use Rattle.orc_row_groups.proofs.BoundLemmas.{bound_past}
 
 both_more : (a b : ℕ) → nat_lt a b ≡ nat_lt (suc a) (suc b)
 both_more a b =
@@ -37,7 +37,7 @@ both_more a b =
 
 null_where_fewer : (cells : List Cell) → has_null cells ≡ nat_lt (length (values cells)) (length cells)
 null_where_fewer [] = refl
-null_where_fewer (null ∷ cells) = sym (lt-ltb (length (values cells)) (suc (length cells)) (omega (arith, few_values cells)))
+null_where_fewer (null ∷ cells) = sym (lt-ltb (length (values cells)) (suc (length cells)) (omega (arith, values_few cells)))
 null_where_fewer (leaf a ∷ cells) = null_where_fewer cells ∙ both_more (length (values cells)) (length cells)
 null_where_fewer (list x ∷ cells) = null_where_fewer cells ∙ both_more (length (values cells)) (length cells)
 null_where_fewer (struct x ∷ cells) = null_where_fewer cells ∙ both_more (length (values cells)) (length cells)
@@ -61,7 +61,7 @@ none_before cells n b is =
     let all = ap octets (take-append-drop b cells) in
     omega (arith, whole, all, octets_of_values cells, ap octets is, no_octets n)
 
-group_values : (count : ℕ) (bounds : List ℕ) (values_count : ℕ) (value_bounds : List ℕ) (group : ℕ) (cells : List Cell) → length value_bounds ≡ length bounds → HasValues count bounds value_bounds (replicate values_count childless_struct) cells
+group_values : (count : ℕ) (bounds : List ℕ) (values_count : ℕ) (value_bounds : List ℕ) (group : ℕ) (cells : List Cell) → length value_bounds ≡ length bounds → HavePassedValues count bounds value_bounds (replicate values_count childless_struct) cells
     → length (values (take (bound_at count bounds group) cells)) ≡ bound_at values_count value_bounds group
 group_values count bounds values_count value_bounds group cells as_many h =
     elim (cases_lt group (length bounds)) [
@@ -76,7 +76,7 @@ group_values count bounds values_count value_bounds group cells as_many h =
 -- one group more is found
 pub struct_group : (s : Shape) (count : ℕ) (bounds : List ℕ) (values_count : ℕ) (value_bounds : List ℕ) (group : ℕ) (groups more : List GroupFound) (found : GroupFound) (start first n many : ℕ) (cells : List Cell)
     → (stat kind.Plain ≡ stat (kind_of s))
-    → AreBounds count bounds → AreValueBounds count bounds values_count value_bounds → HasValues count bounds value_bounds (replicate values_count childless_struct) cells
+    → AreBounds count bounds → AreValueBounds count bounds values_count value_bounds → HavePassedValues count bounds value_bounds (replicate values_count childless_struct) cells
     → start ≡ bound_at count bounds group → first ≡ bound_at values_count value_bounds group
     → n ≡ bound_at count bounds (group + 1) - start → many ≡ bound_at values_count value_bounds (group + 1) - first
     → found.stat.count ≡ many → found.stat.nulls ≡ Some (nat_lt many n) → found.stat.body ≡ body.Plain
@@ -116,7 +116,7 @@ struct_group s count bounds values_count value_bounds group groups more found st
 
 -- all groups of a column of structs
 pub structs_found : (fields : Fields) (order : List ℕ) (count : ℕ) (bounds : List ℕ) (values_count : ℕ) (value_bounds : List ℕ) (found : ColumnFound) (cells : List Cell)
-    → HasValues count bounds value_bounds (replicate values_count childless_struct) cells
+    → HavePassedValues count bounds value_bounds (replicate values_count childless_struct) cells
     → found.stat.count ≡ values_count → found.stat.nulls ≡ Some (nat_lt values_count count) → found.stat.body ≡ body.Plain
     → found.below ≡ values_count → found.bounds_below.items ≡ value_bounds
     → AreGroupsFound (struct_of fields order) cells bounds (length bounds) found.groups.items → IsColumnFound (struct_of fields order) cells bounds found
@@ -132,9 +132,9 @@ structs_found fields order count bounds values_count value_bounds found cells h 
 
 -- the same of a reader that has no values to read
 pub struct_column : (s : Shape) (fields : Fields) (order : List ℕ) (source : ValueSource) (count : ℕ) (bounds : List ℕ) (values_count : ℕ) (value_bounds : List ℕ) (found : ColumnFound) → s ≡ struct_of fields order
-    → ((cells : List Cell) (fs : Fields) (o : List ℕ) → HasValues count bounds value_bounds (replicate values_count childless_struct) cells → IsColumnFound (struct_of fs o) cells bounds found)
-    → (read : List Cell) × (length read ≡ values_count) × OwnValuesLeft s source read × ((cells : List Cell) → HasValues count bounds value_bounds read cells → IsColumnFound s cells bounds found)
+    → ((cells : List Cell) (fs : Fields) (o : List ℕ) → HavePassedValues count bounds value_bounds (replicate values_count childless_struct) cells → IsColumnFound (struct_of fs o) cells bounds found)
+    → (read : List Cell) × (length read ≡ values_count) × OwnValuesLeft s source read × ((cells : List Cell) → HavePassedValues count bounds value_bounds read cells → IsColumnFound s cells bounds found)
 struct_column s fields order source count bounds values_count value_bounds found is h =
     let long = length-replicate values_count childless_struct in
-    subst (λ z. (read : List Cell) × (length read ≡ values_count) × OwnValuesLeft z source read × ((cells : List Cell) → HasValues count bounds value_bounds read cells → IsColumnFound z cells bounds found)) (sym is)
+    subst (λ z. (read : List Cell) × (length read ≡ values_count) × OwnValuesLeft z source read × ((cells : List Cell) → HavePassedValues count bounds value_bounds read cells → IsColumnFound z cells bounds found)) (sym is)
     (replicate values_count childless_struct, long, ap (λ (n : ℕ). replicate n childless_struct) (sym long), λ cells k. h cells fields order k)

@@ -8,12 +8,12 @@ use Rattle.orc_values.specs.declared.kind.Scalar.{Scalar}
 use Rattle.orc_values.proofs.Listed.{fields_from}
 use Rattle.orc_column_reader.specs.Faults.{RowsFault}
 use Rattle.orc_column_reader.specs.Stripe.{Streams}
-use Rattle.orc_column_reader.specs.declared.fault.StripeFault.{StripeFault}
-use Rattle.orc_column_reader.specs.declared.fault.StripeFault.TheVariants.{TooMany}
-use Rattle.orc_column_reader.proofs.ByNumber.{first_cells, wide}
+use Rattle.orc_directory.specs.declared.fault.StripeFault.{StripeFault}
+use Rattle.orc_directory.specs.declared.fault.StripeFault.TheVariants.{TooMany}
 use Rattle.orc_column_walk.specs.OwnColumns.{IsOwnColumn, OwnDown, OwnWithin}
-use Rattle.orc_column_walk.specs.OwnFaults.{IsRefused, RefusedDown, RefusedWithin}
+use Rattle.orc_column_walk.specs.OwnFaults.{SpellsNoCells, RefusedDown, RefusedWithin}
 use Rattle.orc_column_walk.specs.OwnLeft.{children}
+use Rattle.orc_values.proofs.Deeper.{width_pos, cells-zero}
 
 -- a column's own cells, and how many children they have
 abbrev pub OwnRead : Shape → (ℕ → Streams) → ℕ → ℕ → ℕ → Type 0
@@ -62,7 +62,7 @@ Refused s columns c n f = (all : Bool) × RefusedDown s columns c all n f
 abbrev pub RefusedFields : Fields → (ℕ → Streams) → ℕ → ℕ → StripeFault → Type 0
 RefusedFields fs columns c n f = (all : Bool) × RefusedWithin fs columns c all n f
 
-pub refused_here : (s : Shape) (columns : ℕ → Streams) (c n : ℕ) (f : StripeFault) → (all : Bool) × IsRefused s (columns c) c all n f → Refused s columns c n f
+pub refused_here : (s : Shape) (columns : ℕ → Streams) (c n : ℕ) (f : StripeFault) → (all : Bool) × SpellsNoCells s (columns c) c all n f → Refused s columns c n f
 refused_here s columns c n f h = (h.0, inl h.1)
 
 pub list_refused : (s t : Shape) (o : List ℕ) (columns : ℕ → Streams) (c d n below : ℕ) (f : StripeFault) → s ≡ list_of t o → d ≡ c + 1 → OwnRead s columns c n below → Refused t columns d below f → Refused s columns c n f
@@ -122,6 +122,6 @@ field_refused fields columns first next count place here f r lt is h =
 
 pub too_many_rows : (s : Shape) (columns : ℕ → Streams) (n : ℕ) → 2 ^ 31 - 1 < n → RowsFault s columns n (TooMany 0)
 too_many_rows s columns n lt = record {
-  none = λ rows r. let few = (r.column 0 (wide s)).few in omega (arith, few, ap length (first_cells s rows), r.counted, lt);
+  none = λ rows r. let few = (r.column 0 (width_pos s)).few in omega (arith, few, ap length (cells-zero s rows), r.counted, lt);
   reason = inl (refl, omega (arith, lt));
 }

@@ -7,7 +7,7 @@ use Rattle.orc_values.specs.declared.kind.Scalar.{Scalar}
 use Rattle.orc_column_reader.specs.Columns.{ScalarLeft}
 use Rattle.orc_column_reader.specs.ReaderFaults.{ScalarMeets, ListsMeet, ValuesMeet}
 use Rattle.orc_column_reader.specs.declared.column.ValueSource.{ValueSource}
-use Rattle.orc_column_reader.specs.declared.fault.StripeFault.{StripeFault}
+use Rattle.orc_directory.specs.declared.fault.StripeFault.{StripeFault}
 use Rattle.orc_values.specs.Childless.{list_of_size, map_of_size, childless_struct}
 use Rattle.orc_column_walk.specs.OwnLeft.{SizesLeft, OwnValuesLeft, children}
 use Rattle.orc_column_walk.proofs.RowsOf.{elements_sum, pairs_sum}

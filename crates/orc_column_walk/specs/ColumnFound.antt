@@ -5,8 +5,8 @@ use Rattle.orc_values.specs.Cells.{Cell, values}
 use Rattle.orc_values.specs.Shapes.{Shape, scalar, list_of, map_of, struct_of}
 use Rattle.orc_stats.specs.Kinds.{kind_of}
 use Rattle.orc_stats.specs.Statistics.{stat}
-use Rattle.orc_row_index.specs.Bounds.{before_group, group_of, elements_before, pairs_before, values_before}
-use Rattle.orc_row_index.specs.Walking.{AreCounted}
+use Rattle.orc_row_groups.specs.Bounds.{before_group, group_of, elements_before, pairs_before, values_before}
+use Rattle.orc_row_groups.specs.Counts.{AreCounted}
 use Rattle.orc_column_walk.specs.OwnLeft.{children}
 use Rattle.orc_column_walk.specs.declared.found.ColumnFound.{ColumnFound}
 use Rattle.orc_column_walk.specs.declared.found.GroupFound.{GroupFound}

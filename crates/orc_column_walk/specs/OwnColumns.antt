@@ -7,7 +7,8 @@ use Rattle.orc_values.specs.Cells.{Cell, parts, pairs_in, values}
 use Rattle.orc_values.specs.Shapes.{Shape, scalar, list_of, map_of, struct_of, Fields, no_field, field, width}
 use Rattle.orc_column_reader.specs.Numbers.{AreNumbers}
 use Rattle.orc_column_reader.specs.Spellings.{Nullable}
-use Rattle.orc_column_reader.specs.Stripe.{Streams, version, Marks, SpellsScalar, cell_limit, most_cells, in_present, in_length}
+use Rattle.orc_column_reader.specs.Stripe.{Streams, version, Marks, SpellsScalar, in_present, in_length}
+use Rattle.orc_values.specs.Limits.{cell_limit, most_cells}
 use Rattle.orc_values.specs.Childless.{list_of_size, map_of_size, childless_struct}
 
 -- LENGTH spells the sizes of lists, or of maps, which are no more together than a column may have cells

@@ -6,7 +6,7 @@ use Rattle.orc_values.specs.Shapes.{Shape, scalar, list_of, map_of, struct_of, F
 use Rattle.orc_column_reader.specs.Faults.{MarksFail, DictionaryFails, ValuesFail}
 use Rattle.orc_column_reader.specs.Needs.{MarksBegin, ValuesNeeded}
 use Rattle.orc_column_reader.specs.Stripe.{Streams, in_present}
-use Rattle.orc_column_reader.specs.declared.fault.StripeFault.{StripeFault}
+use Rattle.orc_directory.specs.declared.fault.StripeFault.{StripeFault}
 use Rattle.orc_column_walk.specs.OwnColumns.{IsOwnColumn, elements_together, pairs_together}
 
 -- a fault of a column's own streams: of PRESENT, of the dictionary, or of those beside
@@ -17,7 +17,7 @@ OwnFault s x c all n f =
     ⊎ ((v : ℕ) × ValuesNeeded all n (MarksBegin (in_present x)) v × ValuesFail s x all v c f))
 
 -- The streams of column c spell no n cells, for this reason.
-pub record IsRefused (s : Shape) (x : Streams) (c : ℕ) (all : Bool) (n : ℕ) (f : StripeFault) : Type 0 where
+pub record SpellsNoCells (s : Shape) (x : Streams) (c : ℕ) (all : Bool) (n : ℕ) (f : StripeFault) : Type 0 where
   pub none : (own : List Cell) → IsOwnColumn s x n own → ⊥
   pub fault : OwnFault s x c all n f
 
@@ -25,7 +25,7 @@ pub record IsRefused (s : Shape) (x : Streams) (c : ℕ) (all : Bool) (n : ℕ) 
 abbrev pub RefusedFrom : (ℕ → List Cell → Bool → StripeFault → Type 0)
     → Shape → (ℕ → Streams) → ℕ → Bool → ℕ → StripeFault → Type 0
 RefusedFrom below s columns c all n f =
-    IsRefused s (columns c) c all n f ⊎ ((own : List Cell) × IsOwnColumn s (columns c) n own × below c own all f)
+    SpellsNoCells s (columns c) c all n f ⊎ ((own : List Cell) × IsOwnColumn s (columns c) n own × below c own all f)
 
 abbrev mutual
   -- below a column of these cells

@@ -7,8 +7,8 @@ use Rattle.orc_values.specs.declared.own.Own.TheVariants as own
 use Rattle.orc_values.specs.Trues.{trues}
 use Rattle.orc_stats.specs.Kinds.{kind_of}
 use Rattle.orc_stats.specs.Statistics.{stat}
-use Rattle.orc_row_index.specs.Bounds.{AreBounds, bound_at, values_before}
-use Rattle.orc_row_index.specs.Walking.{AreCounted, most}
+use Rattle.orc_row_groups.specs.Bounds.{AreBounds, bound_at, values_before}
+use Rattle.orc_row_groups.specs.Counts.{AreCounted, most}
 use Rattle.orc_column_walk.specs.ColumnFound.{IsGroupFound}
 use Rattle.orc_column_walk.specs.OwnLeft.{children}
 use Rattle.orc_column_walk.specs.declared.found.ColumnFound.{ColumnFound}
@@ -32,7 +32,7 @@ pub record IsPassed (s : Shape) (cells : List Cell) (passed : Passed) : Type 0 w
   pub children_are : passed.children ≡ min most (children s (values cells))
 
 -- the cells have these values, and so many of them come before each bound
-pub record HasValues (count : ℕ) (bounds value_bounds : List ℕ) (vs cells : List Cell) : Type 0 where
+pub record HavePassedValues (count : ℕ) (bounds value_bounds : List ℕ) (vs cells : List Cell) : Type 0 where
   pub counted : length cells ≡ count
   pub values_are : values cells ≡ vs
   pub before : map (values_before cells) bounds ≡ value_bounds
@@ -54,7 +54,7 @@ pub record AreGroupsFound (s : Shape) (cells : List Cell) (bounds : List ℕ) (n
   pub each : (g : ℕ) (group : GroupFound) → slice_get groups g ≡ Some group → IsGroupFound s cells bounds g group
 
 -- The same of all groups, with what is found of the whole. Children are counted up to the most.
-pub record IsCounted (s : Shape) (cells : List Cell) (bounds : List ℕ) (found : ColumnFound) : Type 0 where
+pub record AreGroupsCounted (s : Shape) (cells : List Cell) (bounds : List ℕ) (found : ColumnFound) : Type 0 where
   pub stat_is : found.stat ≡ stat (kind_of s) cells
   pub groups_are : AreGroupsFound s cells bounds (length bounds) found.groups.items
   pub below_is : found.below ≡ min most (children s (values cells))

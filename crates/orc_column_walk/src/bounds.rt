@@ -1,6 +1,6 @@
 //! Where the groups of a column's cells begin.
 ghost use Rattle.std.specs.Prelude.{◌≡◌};
-ghost use Rattle.orc_row_index.specs.Bounds.{bound_at};
+ghost use Rattle.orc_row_groups.specs.Bounds.{bound_at};
 
 /// Where a group begins: at its bound, or at the end.
 pub(crate) fn bound_of(bounds: &[usize], group: usize, count: usize) -> usize

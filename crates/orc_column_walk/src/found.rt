@@ -1,5 +1,5 @@
 //! What is found of a column that is read by itself.
-use orc_row_index::Counts;
+use orc_row_groups::Counts;
 use orc_stats::Stat;
 
 /// What is found of a group of a column's cells.

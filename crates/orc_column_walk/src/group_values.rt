@@ -4,22 +4,23 @@ ghost use Rattle.orc_values.specs.Cells.{Cell, values as values_of};
 ghost use Rattle.orc_values.specs.Views.{shape};
 ghost use Rattle.orc_column_reader.specs.Fronts.{Leaves, Lacks};
 ghost use Rattle.orc_column_reader.specs.ReaderFaults.{ValuesMeet};
-ghost use Rattle.orc_column_reader.specs.Stripe.{cell_limit};
-ghost use Rattle.orc_column_reader.specs.declared.fault.StripeFault.{StripeFault as Fault};
-ghost use Rattle.orc_column_reader.specs.declared.fault.StripeFault.TheVariants.{OutOfMemory};
-ghost use Rattle.orc_row_index.specs.Bounds.{AreBounds, bound_at};
+ghost use Rattle.orc_values.specs.Limits.{cell_limit};
+ghost use Rattle.orc_directory.specs.declared.fault.StripeFault.{StripeFault as Fault};
+ghost use Rattle.orc_directory.specs.declared.fault.StripeFault.TheVariants.{OutOfMemory};
+ghost use Rattle.orc_row_groups.specs.Bounds.{AreBounds, bound_at};
 ghost use Rattle.orc_stats.specs.Kinds.{kind_of};
 ghost use Rattle.orc_stats.specs.Tallies.{together, cells_kept, stat_of_kept};
 ghost use Rattle.orc_column_walk.specs.ColumnFound.{IsColumnFound};
 ghost use Rattle.orc_column_walk.specs.OwnLeft.{OwnValuesLeft};
-ghost use Rattle.orc_column_walk.specs.Passed.{IsPassed, HasValues, AreValueBounds, IsCounted};
+ghost use Rattle.orc_column_walk.specs.Passed.{IsPassed, HavePassedValues, AreValueBounds, AreGroupsCounted};
 
 use crate::bounds::bound_of;
 use crate::found::{ColumnFound, GroupFound};
 use crate::next_value::{AnyValues, ListValues, NextValue, NumberValues, TextValues};
 use crate::own_values::{values_end, values_left};
 use crate::passed::Passed;
-use orc_column_reader::{StripeFault, ValueSource};
+use orc_column_reader::ValueSource;
+use orc_directory::StripeFault;
 use orc_stats::{Bins, Bools, Children, Counted, Dates, Ints, Plain, Stat, StatKind, Tally, Texts};
 use orc_values::{Own, Tree};
 use std::alloc::{AllocError, Global};
@@ -142,8 +143,8 @@ fn count_groups<'a, T: Tally<'a>, V: NextValue>(
     ensures found { IfOk result (λ found. (read : List Cell)
         × (length read ≡ groups.entry.values)
         × Leaves (OwnValuesLeft (shape tree.now) source.old) (OwnValuesLeft (shape tree.now) source.new) read
-        × ((cells : List Cell) → HasValues groups.entry.count groups.entry.bounds.now groups.entry.value_bounds.now read cells
-        → IsCounted (shape tree.now) cells groups.entry.bounds.now found)) }
+        × ((cells : List Cell) → HavePassedValues groups.entry.count groups.entry.bounds.now groups.entry.value_bounds.now read cells
+        → AreGroupsCounted (shape tree.now) cells groups.entry.bounds.now found)) }
     ensures none { IfErr result (λ fault. fault ≢ OutOfMemory
         → Lacks (OwnValuesLeft (shape tree.now) source.old) groups.entry.values) }
     ensures before { OnOk result ((all : Bool) (n : ℕ) (f : Fault)
@@ -197,8 +198,8 @@ fn count_by_kind(
     ensures found { IfOk result (λ found. (read : List Cell)
         × (length read ≡ groups.entry.values)
         × Leaves (OwnValuesLeft (shape tree.now) source.old) (OwnValuesLeft (shape tree.now) source.new) read
-        × ((cells : List Cell) → HasValues groups.entry.count groups.entry.bounds.now groups.entry.value_bounds.now read cells
-        → IsCounted (shape tree.now) cells groups.entry.bounds.now found)) }
+        × ((cells : List Cell) → HavePassedValues groups.entry.count groups.entry.bounds.now groups.entry.value_bounds.now read cells
+        → AreGroupsCounted (shape tree.now) cells groups.entry.bounds.now found)) }
     ensures none { IfErr result (λ fault. fault ≢ OutOfMemory
         → Lacks (OwnValuesLeft (shape tree.now) source.old) groups.entry.values) }
     ensures before { OnOk result ((all : Bool) (n : ℕ) (f : Fault)
@@ -236,7 +237,7 @@ pub(crate) fn find_values(
     ensures found { IfOk result (λ found. (read : List Cell)
         × (length read ≡ groups.entry.values)
         × OwnValuesLeft (shape tree.now) source.old read
-        × ((cells : List Cell) → HasValues groups.entry.count groups.entry.bounds.now groups.entry.value_bounds.now read cells
+        × ((cells : List Cell) → HavePassedValues groups.entry.count groups.entry.bounds.now groups.entry.value_bounds.now read cells
         → IsColumnFound (shape tree.now) cells groups.entry.bounds.now found)) }
     ensures none { IfErr result (λ fault. fault ≢ OutOfMemory
         → (read : List Cell) → OwnValuesLeft (shape tree.now) source.old read → length read ≡ groups.entry.values → ⊥) }

@@ -2,22 +2,24 @@
 ghost use Rattle.std.specs.Prelude.{◌≡◌, ◌≢◌, ◌<◌, Bool, List, length, IfOk, IfErr};
 ghost use Rattle.orc_values.specs.Cells.{Cell};
 ghost use Rattle.orc_values.specs.Views.{shape};
-ghost use Rattle.orc_column_reader.specs.Located.{AreLocated};
-ghost use Rattle.orc_column_reader.specs.Stripe.{columns_of, cell_limit};
-ghost use Rattle.orc_column_reader.specs.declared.fault.StripeFault.TheVariants.{OutOfMemory};
-ghost use Rattle.orc_row_index.specs.Bounds.{AreBounds, bound_at};
+ghost use Rattle.orc_directory.specs.Located.{AreLocated};
+ghost use Rattle.orc_column_reader.specs.Stripe.{columns_of};
+ghost use Rattle.orc_values.specs.Limits.{cell_limit};
+ghost use Rattle.orc_directory.specs.declared.fault.StripeFault.TheVariants.{OutOfMemory};
+ghost use Rattle.orc_row_groups.specs.Bounds.{AreBounds, bound_at};
 ghost use Rattle.orc_column_walk.specs.ColumnFound.{IsColumnFound};
 ghost use Rattle.orc_column_walk.specs.OwnColumns.{IsOwnColumn};
-ghost use Rattle.orc_column_walk.specs.OwnFaults.{IsRefused};
+ghost use Rattle.orc_column_walk.specs.OwnFaults.{SpellsNoCells};
 ghost use Rattle.orc_column_walk.specs.OwnLeft.{OwnValuesLeft};
-ghost use Rattle.orc_column_walk.specs.Passed.{HasValues, AreValueBounds};
+ghost use Rattle.orc_column_walk.specs.Passed.{HavePassedValues, AreValueBounds};
 ghost use Rattle.orc_column_reader.specs.ReaderFaults.{ValuesMeet};
 
 use crate::found::ColumnFound;
 use crate::group_values::{GroupBounds, find_values};
 use crate::marks::{ValueBounds, count_values_by_group};
 use crate::struct_groups::find_structs;
-use orc_column_reader::{Located, StripeFault, ValueSource, reader_of};
+use orc_column_reader::{ValueSource, reader_of};
+use orc_directory::{Located, StripeFault};
 use orc_values::Tree;
 use orc_wire::StripeFooter;
 use std::alloc::Global;
@@ -38,7 +40,7 @@ fn find_column(
     ensures found { IfOk result (λ found. (read : List Cell)
         × (length read ≡ marked.values)
         × OwnValuesLeft (shape tree.now) source.old read
-        × ((cells : List Cell) → HasValues count bounds.now marked.before.items read cells
+        × ((cells : List Cell) → HavePassedValues count bounds.now marked.before.items read cells
         → IsColumnFound (shape tree.now) cells bounds.now found)) }
     ensures none { IfErr result (λ fault. fault ≢ OutOfMemory
         → (read : List Cell) → OwnValuesLeft (shape tree.now) source.old read → length read ≡ marked.values → ⊥) }
@@ -89,7 +91,7 @@ pub fn read_groups(
     // of its own streams.
     ensures fault { IfErr result (λ cause. cause ≢ OutOfMemory
         → (all : Bool)
-        × IsRefused (shape tree.now) (columns_of footer.now located.now.bytes.now column) column all count cause) }
+        × SpellsNoCells (shape tree.now) (columns_of footer.now located.now.bytes.now column) column all count cause) }
 {
     match reader_of(alloc, tree, column, footer, located) {
         Ok(mut reader) => {

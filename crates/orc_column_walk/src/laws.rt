@@ -5,7 +5,7 @@ ghost use Rattle.orc_values.specs.Columns.{cells};
 ghost use Rattle.orc_values.specs.Shapes.{Shape, width};
 ghost use Rattle.orc_column_reader.specs.Faults.{RowsFault};
 ghost use Rattle.orc_column_reader.specs.Stripe.{Streams, SpellRows};
-ghost use Rattle.orc_column_reader.specs.declared.fault.StripeFault.{StripeFault};
+ghost use Rattle.orc_directory.specs.declared.fault.StripeFault.{StripeFault};
 ghost use Rattle.orc_values.specs.Childless.{childless};
 ghost use Rattle.orc_column_walk.specs.OwnColumns.{AreOwnColumns};
 ghost use Rattle.orc_column_walk.specs.OwnFaults.{RefusedDown};

@@ -5,17 +5,16 @@ ghost use Rattle.orc_column_reader.specs.Faults.{RunsFail};
 ghost use Rattle.orc_column_reader.specs.Fronts.{Leaves, Lacks};
 ghost use Rattle.orc_column_reader.specs.RunFaults.{Always};
 ghost use Rattle.orc_column_reader.specs.RunsMet.{MarksMeet};
-ghost use Rattle.orc_column_reader.specs.declared.fault.StripeFault.{StripeFault as Fault};
-ghost use Rattle.orc_column_reader.specs.declared.fault.StripeFault.TheVariants.{OutOfMemory};
-ghost use Rattle.orc_column_reader.specs.declared.fault.StreamKind.TheVariants.{Present};
-ghost use Rattle.orc_row_index.specs.Bounds.{AreBounds, bound_at};
+ghost use Rattle.orc_directory.specs.declared.fault.StripeFault.{StripeFault as Fault};
+ghost use Rattle.orc_directory.specs.declared.fault.StripeFault.TheVariants.{OutOfMemory};
+ghost use Rattle.orc_directory.specs.declared.fault.StreamKind.TheVariants.{Present};
+ghost use Rattle.orc_row_groups.specs.Bounds.{AreBounds, bound_at};
 ghost use Rattle.orc_column_walk.specs.Passed.{trues_before};
 ghost use Rattle.orc_values.specs.Trues.{trues};
 
 use crate::bounds::bound_of;
-use orc_column_reader::{
-    Bits, StreamKind, StripeFault, marks_end, marks_left, next_mark, run_fault,
-};
+use orc_column_reader::{Bits, marks_end, marks_left, next_mark};
+use orc_directory::{StreamKind, StripeFault, run_fault};
 use std::alloc::{AllocError, Global};
 
 /// How many values a cell with this mark is.

@@ -1,6 +1,7 @@
 //! Ways to the next value of a column. A way for the types that files have most of asks for its own type first, so that a
 //! loop over values has that type's reader in itself, with no call for a value.
-use orc_column_reader::{StripeFault, ValueSource, next_size};
+use orc_column_reader::{ValueSource, next_size};
+use orc_directory::StripeFault;
 use orc_values::{Own, Scalar, Tree};
 
 /// A way to the next value of a column, of whatever type.
@@ -12,8 +13,8 @@ pub(crate) trait NextValue {
     ghost use Rattle.orc_stats.specs.Kinds.{is_of, kind_of};
     ghost use Rattle.orc_column_reader.specs.Fronts.{Leaves, Lacks};
     ghost use Rattle.orc_column_reader.specs.ReaderFaults.{ValuesMeet};
-    ghost use Rattle.orc_column_reader.specs.declared.fault.StripeFault.{StripeFault as Fault};
-    ghost use Rattle.orc_column_reader.specs.declared.fault.StripeFault.TheVariants.{OutOfMemory};
+    ghost use Rattle.orc_directory.specs.declared.fault.StripeFault.{StripeFault as Fault};
+    ghost use Rattle.orc_directory.specs.declared.fault.StripeFault.TheVariants.{OutOfMemory};
     ghost use Rattle.orc_column_walk.specs.OwnLeft.{OwnValuesLeft, children};
     ghost use Rattle.orc_column_walk.specs.Passed.{own_children};
 

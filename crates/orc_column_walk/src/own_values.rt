@@ -4,10 +4,8 @@ ghost use Rattle.orc_values.specs.Views.{shape};
 ghost use Rattle.orc_column_reader.specs.ReaderFaults.{ListsMeet, ValuesMeet};
 ghost use Rattle.orc_column_walk.specs.OwnLeft.{OwnValuesLeft, SizesLeft};
 
-use orc_column_reader::{
-    StreamKind, StripeFault, ValueSource, numbers_end, numbers_left, run_fault, scalar_end,
-    scalar_left,
-};
+use orc_column_reader::{ValueSource, numbers_end, numbers_left, scalar_end, scalar_left};
+use orc_directory::{StreamKind, StripeFault, run_fault};
 use orc_values::Tree;
 
 /// Whether no size is left.

@@ -6,7 +6,7 @@ ghost use Rattle.orc_values.specs.Shapes.{Shape};
 ghost use Rattle.orc_column_walk.specs.OwnLeft.{children};
 ghost use Rattle.orc_column_walk.specs.Passed.{own_children, IsPassed};
 
-use orc_row_index::Counts;
+use orc_row_groups::Counts;
 use orc_values::Own;
 
 /// The counts of the cells so far, and how many children they have, which is counted up to 2^64 - 1.

@@ -4,10 +4,11 @@ ghost use Rattle.orc_values.specs.Cells.{Cell};
 ghost use Rattle.orc_column_reader.specs.Columns.{ScalarLeft};
 ghost use Rattle.orc_column_reader.specs.Fronts.{Leaves, Lacks};
 ghost use Rattle.orc_column_reader.specs.ReaderFaults.{ScalarMeets};
-ghost use Rattle.orc_column_reader.specs.declared.fault.StripeFault.{StripeFault as Fault};
-ghost use Rattle.orc_column_reader.specs.declared.fault.StripeFault.TheVariants.{OutOfMemory};
+ghost use Rattle.orc_directory.specs.declared.fault.StripeFault.{StripeFault as Fault};
+ghost use Rattle.orc_directory.specs.declared.fault.StripeFault.TheVariants.{OutOfMemory};
 
-use orc_column_reader::{StripeFault, ValueSource, scalar_end, scalar_left};
+use orc_column_reader::{ValueSource, scalar_end, scalar_left};
+use orc_directory::StripeFault;
 use orc_values::Scalar;
 
 /// Reads the next values, so many, and holds none.

@@ -2,13 +2,12 @@
 ghost use Rattle.std.specs.Prelude.{◌≡◌, ◌≢◌, ◌+◌, ◌≤◌, ℕ, Bool, false, List, length, sum, IfOk, IfErr, OnOk, OnErr};
 ghost use Rattle.orc_column_reader.specs.Fronts.{Leaves, Lacks};
 ghost use Rattle.orc_column_reader.specs.ReaderFaults.{ListsMeet};
-ghost use Rattle.orc_column_reader.specs.declared.fault.StripeFault.{StripeFault as Fault};
-ghost use Rattle.orc_column_reader.specs.declared.fault.StripeFault.TheVariants.{OutOfMemory};
+ghost use Rattle.orc_directory.specs.declared.fault.StripeFault.{StripeFault as Fault};
+ghost use Rattle.orc_directory.specs.declared.fault.StripeFault.TheVariants.{OutOfMemory};
 ghost use Rattle.orc_column_walk.specs.OwnLeft.{SizesLeft};
 
-use orc_column_reader::{
-    StreamKind, StripeFault, ValueSource, next_size, numbers_end, numbers_left, run_fault,
-};
+use orc_column_reader::{ValueSource, next_size, numbers_end, numbers_left};
+use orc_directory::{StreamKind, StripeFault, run_fault};
 
 /// Reads the next sizes, so many, and answers how many elements the lists have together, or pairs the maps.
 fn add_sizes(source: &mut ValueSource<'_>, count: usize) -> Result<usize, StripeFault>

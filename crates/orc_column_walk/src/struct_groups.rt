@@ -3,16 +3,16 @@ ghost use Rattle.std.specs.Prelude.{◌≡◌, ◌<◌, ℕ, Some, nat_lt, List,
 ghost use Rattle.orc_values.specs.Cells.{Cell};
 ghost use Rattle.orc_values.specs.Childless.{childless_struct};
 ghost use Rattle.orc_values.specs.Shapes.{Fields, struct_of};
-ghost use Rattle.orc_column_reader.specs.Stripe.{cell_limit};
-ghost use Rattle.orc_row_index.specs.Bounds.{AreBounds};
+ghost use Rattle.orc_values.specs.Limits.{cell_limit};
+ghost use Rattle.orc_row_groups.specs.Bounds.{AreBounds};
 ghost use Rattle.orc_stats.specs.declared.stat.Body.TheVariants.{Plain};
 ghost use Rattle.orc_column_walk.specs.ColumnFound.{IsColumnFound};
-ghost use Rattle.orc_column_walk.specs.Passed.{HasValues, AreValueBounds};
+ghost use Rattle.orc_column_walk.specs.Passed.{HavePassedValues, AreValueBounds};
 
 use crate::bounds::bound_of;
 use crate::found::{ColumnFound, GroupFound};
 use crate::marks::ValueBounds;
-use orc_row_index::Counts;
+use orc_row_groups::Counts;
 use orc_stats::{Body, Stat};
 use std::alloc::{AllocError, Global};
 
@@ -41,7 +41,7 @@ pub(crate) fn find_structs(
     requires bounds { AreBounds count bounds.now }
     requires values { AreValueBounds count bounds.now marked.values marked.before.items }
     ensures { IfOk result (λ found. (cells : List Cell) (fields : Fields) (order : List ℕ)
-        → HasValues count bounds.now marked.before.items (replicate marked.values childless_struct) cells
+        → HavePassedValues count bounds.now marked.before.items (replicate marked.values childless_struct) cells
         → IsColumnFound (struct_of fields order) cells bounds.now found) }
 {
     let mut groups = Vec::new(alloc);

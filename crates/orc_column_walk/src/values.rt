@@ -3,12 +3,13 @@ ghost use Rattle.std.specs.Prelude.{◌≡◌, ◌≢◌, Bool, List, length, If
 ghost use Rattle.orc_values.specs.Cells.{Cell};
 ghost use Rattle.orc_values.specs.Views.{shape};
 ghost use Rattle.orc_column_reader.specs.ReaderFaults.{ValuesMeet};
-ghost use Rattle.orc_column_reader.specs.declared.fault.StripeFault.TheVariants.{OutOfMemory};
+ghost use Rattle.orc_directory.specs.declared.fault.StripeFault.TheVariants.{OutOfMemory};
 ghost use Rattle.orc_column_walk.specs.OwnLeft.{OwnValuesLeft, children};
 
 use crate::scalars::read_scalars;
 use crate::sizes::sum_sizes;
-use orc_column_reader::{StripeFault, ValueSource};
+use orc_column_reader::ValueSource;
+use orc_directory::StripeFault;
 use orc_values::Tree;
 
 /// Reads all values of a column, which are to be so many, and answers how many children they have: elements of lists,

@@ -4,17 +4,19 @@ ghost use Rattle.orc_values.specs.Cells.{Cell, values};
 ghost use Rattle.orc_values.specs.Shapes.{width, widths};
 ghost use Rattle.orc_values.specs.Views.{shape, fields as fields_view};
 ghost use Rattle.orc_column_reader.specs.Faults.{RowsFault};
-ghost use Rattle.orc_column_reader.specs.Located.{AreLocated};
-ghost use Rattle.orc_column_reader.specs.Stripe.{SpellRows, columns_of, cell_limit};
-ghost use Rattle.orc_column_reader.specs.declared.fault.StripeFault.TheVariants.{OutOfMemory};
+ghost use Rattle.orc_directory.specs.Located.{AreLocated};
+ghost use Rattle.orc_column_reader.specs.Stripe.{SpellRows, columns_of};
+ghost use Rattle.orc_values.specs.Limits.{cell_limit};
+ghost use Rattle.orc_directory.specs.declared.fault.StripeFault.TheVariants.{OutOfMemory};
 ghost use Rattle.orc_column_walk.specs.OwnColumns.{IsOwnColumn, OwnDown, OwnWithin};
-ghost use Rattle.orc_column_walk.specs.OwnFaults.{IsRefused, RefusedDown, RefusedWithin};
+ghost use Rattle.orc_column_walk.specs.OwnFaults.{SpellsNoCells, RefusedDown, RefusedWithin};
 ghost use Rattle.orc_column_walk.specs.OwnLeft.{children};
 
 use crate::marks::count_values;
 use crate::values::read_values;
-use orc_column_reader::{Located, MOST_CELLS, StripeFault, reader_of};
-use orc_values::{Field, Tree};
+use orc_column_reader::reader_of;
+use orc_directory::{Located, StripeFault};
+use orc_values::{Field, MOST_CELLS, Tree};
 use orc_wire::StripeFooter;
 use std::alloc::Global;
 
@@ -37,7 +39,7 @@ fn read_column(
     ensures few { IfOk result (λ below. below < cell_limit) }
     ensures fault { IfErr result (λ cause. cause ≢ OutOfMemory
         → (all : Bool)
-        × IsRefused (shape tree.now) (columns_of footer.now located.now.bytes.now column) column all count cause) }
+        × SpellsNoCells (shape tree.now) (columns_of footer.now located.now.bytes.now column) column all count cause) }
 {
     match reader_of(alloc, tree, column, footer, located) {
         Ok(mut reader) => match count_values(column, &mut reader.present, count) {

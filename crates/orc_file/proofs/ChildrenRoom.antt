@@ -1,16 +1,15 @@
 -- A column of lists, or of maps, has no more children than the column below has cells.
-use Rattle.std.proofs.Common.{◌≡◌, ℕ, zero, suc, ◌+◌, ◌-◌, ◌<◌, ◌≤◌, ◌^◌, List, length, sum_by, ap, ◌∙◌, arith, inl, inr}
+use Rattle.std.proofs.Common.{◌≡◌, ℕ, ◌+◌, ◌-◌, ◌<◌, ◌^◌, List, length, sum_by, ap, ◌∙◌, arith}
 use Rattle.orc_values.specs.declared.kind.Scalar.{Scalar}
 use Rattle.orc_values.specs.declared.kind.Scalar.TheVariants as scalar_kind
-use Rattle.orc_values.specs.Shapes.{Shape, scalar, list_of, map_of, struct_of, Fields, no_field, field, width, widths, shape_at, shape_within}
+use Rattle.orc_values.specs.Shapes.{Shape, scalar, list_of, map_of, struct_of, width, shape_at}
 use Rattle.orc_values.specs.Cells.{Cell, parts, pairs_in}
 use Rattle.orc_values.specs.Columns.{cells}
-use Rattle.orc_values.proofs.Deeper.{width_pos, cells-add, elements-length, keys-length}
+use Rattle.orc_values.proofs.Deeper.{width_pos, cells-add, elements-length, keys-length, at_within}
 use Rattle.orc_stats.specs.declared.kind.StatKind.TheVariants as kind
 use Rattle.orc_stats.specs.Kinds.{kind_of, kind_of_scalar}
 use Rattle.orc_stripe_writer.specs.WrittenStripe.{AreFew}
 use Rattle.orc_tail.specs.Statistics.{kind_at}
-use Rattle.std.proofs.lemmas.Bool.Decides.{leb_tells}
 
 -- the children of a cell of the type; what contains no other, and a struct, has none
 abbrev pub child_number : Shape → Cell → ℕ
@@ -18,29 +17,6 @@ child_number (scalar k o) = λ c. 0
 child_number (list_of s o) = λ c. length (parts c)
 child_number (map_of k v o) = λ c. length (pairs_in c)
 child_number (struct_of fs o) = λ c. 0
-
--- a column's columns are the type's
-mutual
-  at_within : (s : Shape) (c : ℕ) → c < width s → c + width (shape_at s c) ≤ width s
-  at_within (scalar k o) c lt = omega (arith, lt)
-  at_within (list_of s o) zero lt = omega arith
-  at_within (list_of s o) (suc c) lt = omega (arith, at_within s c (omega (arith, lt)))
-  at_within (map_of k v o) zero lt = omega arith
-  at_within (map_of k v o) (suc c) lt =
-      elim (leb_tells (suc c) (width k)) [
-        | inl p ↦ rw p.0 (omega (arith, at_within k c p.1))
-        | inr p ↦ rw p.0 (omega (arith, p.1, at_within v (c - width k) (omega (arith, p.1, lt))))
-      ]
-  at_within (struct_of fs o) zero lt = omega arith
-  at_within (struct_of fs o) (suc c) lt = omega (arith, within_within fs c (omega (arith, lt)))
-
-  within_within : (fs : Fields) (c : ℕ) → c < widths fs → c + width (shape_within fs c) ≤ widths fs
-  within_within no_field c lt = absurd (omega (arith, lt))
-  within_within (field name s fs) c lt =
-      elim (leb_tells (suc c) (width s)) [
-        | inl p ↦ rw p.0 (omega (arith, at_within s c p.1))
-        | inr p ↦ rw p.0 (omega (arith, p.1, within_within fs (c - width s) (omega (arith, p.1, lt))))
-      ]
 
 scalar_no_list : (k : Scalar) → kind_of_scalar k ≡ kind.Children → ⊥
 scalar_no_list scalar_kind.Boolean e = cc

@@ -18,12 +18,12 @@ use Rattle.orc_stats.specs.Kinds.{kind_of}
 use Rattle.orc_stats.specs.Statistics.{text_cmp, text_of, values_body}
 use Rattle.std.specs.Ordering.{flip_args}
 use Rattle.orc_stats.specs.Whole.{without_sum}
-use Rattle.orc_column_reader.specs.Spellings.{joined}
+use Rattle.orc_column_reader.specs.Spellings.{concatenated}
 use Rattle.orc_column_reader.specs.Columns.{IsText, IsEntry}
-use Rattle.orc_column_reader.specs.Directory.{slice, is_of}
+use Rattle.orc_directory.specs.Directory.{slice, is_stream_of}
 use Rattle.orc_column_reader.specs.Stripe.{Streams, SpellsTexts, IsColumn, IsStripe, has_dictionary, columns_of}
 use Rattle.orc_tail.proofs.TextLengths.{HasShortTexts}
-use Rattle.orc_file.proofs.WrittenBits.{least_is}
+use Rattle.orc_stats.proofs.Least.{least_is}
 
 -- ---- cells
 
@@ -35,9 +35,9 @@ IsShort most c = IfSome (text_of c) (λ t. length t ≤ most)
 abbrev pub AreShort : ℕ → StatKind → List Cell → Type 0
 AreShort most k cs = k ≡ kind.Texts → AllByRecursion (IsShort most) cs
 
-groups_short : (most : ℕ) (groups : List (List ℕ)) → length (joined groups) ≤ most → AllByRecursion (λ g. length g ≤ most) groups
+groups_short : (most : ℕ) (groups : List (List ℕ)) → length (concatenated groups) ≤ most → AllByRecursion (λ g. length g ≤ most) groups
 groups_short most [] h = tt
-groups_short most (g ∷ gs) h = let e = length-append g (joined gs) in (omega (arith, e, h), groups_short most gs (omega (arith, e, h)))
+groups_short most (g ∷ gs) h = let e = length-append g (concatenated gs) in (omega (arith, e, h), groups_short most gs (omega (arith, e, h)))
 
 text_short : (most : ℕ) (g : List ℕ) (c : Cell) → length g ≤ most → IsText g c → IsShort most c
 text_short most g c few is = subst (IsShort most) (sym is.1) few
@@ -90,7 +90,7 @@ slice_most : (c k : ℕ) (streams : List StreamMsg) (bytes : List ℕ) → lengt
 slice_most c k [] bytes = omega arith
 slice_most c k (s ∷ ss) bytes =
     let rest = slice_most c k ss (drop s.length bytes) in let d = length-drop s.length bytes in
-    either_most (is_of c k s) (take s.length bytes) (slice c k ss (drop s.length bytes)) (length bytes) (taken_most s.length bytes) (omega (arith, rest, d))
+    either_most (is_stream_of c k s) (take s.length bytes) (slice c k ss (drop s.length bytes)) (length bytes) (taken_most s.length bytes) (omega (arith, rest, d))
 
 -- ---- columns
 

@@ -1,20 +1,21 @@
 -- Of rows one file is written.
-use Rattle.std.proofs.Common.{◌≡◌, ℕ, suc, ◌+◌, ◌<◌, List, [], ◌∷◌, ◌++◌, length, take, drop, Some, refl, sym, ap, ◌∙◌, subst, arith, length-append}
+use Rattle.std.proofs.Common.{◌≡◌, ℕ, suc, ◌+◌, ◌<◌, List, [], ◌∷◌, ◌++◌, length, Some, refl, sym, ap, ◌∙◌, subst, arith, length-append}
 use Rattle.std.specs.Prelude.{slice_get}
 use Rattle.std.proofs.lemmas.List.{append-nil}
-use Rattle.std.proofs.Math.Seq.{take-append_seam, drop-append_seam}
-use Rattle.orc_stripe_writer.specs.declared.options.Options.{Options}
+use Rattle.orc_row_batch.specs.declared.options.Options.{Options}
 use Rattle.orc_wire.specs.declared.stripe_info.StripeInfo.{StripeInfo}
 use Rattle.orc_values.specs.Shapes.{Shape, width}
 use Rattle.orc_values.specs.Cells.{Cell}
 use Rattle.orc_stats.specs.declared.stat.Stat.{Stat}
-use Rattle.orc_stripe_writer.specs.WrittenStripe.{IsWrittenStripe, HaveStats, column_stat}
+use Rattle.orc_stripe_writer.specs.WrittenStripe.{IsWrittenStripe, HaveStats}
+use Rattle.orc_stats.specs.ColumnStatistics.{column_stat}
 use Rattle.orc_stripe_writer.proofs.StripeLaws.{one_stripe}
 use Rattle.orc_tail.specs.Layout.{magic}
 use Rattle.orc_tail.specs.Images.{tail_text}
-use Rattle.orc_file.specs.Writing.{WrittenStripe, IsWrittenAt, AreWrittenStripes, bytes_of, rows_of, infos_of, stats_of, AreFilled, written_tail, IsWrittenFile}
+use Rattle.orc_file_writer.specs.Writing.{WrittenStripe, IsWrittenAt, AreWrittenStripes, written_bytes, rows_of, infos_of, stats_of, AreFilled, written_tail, IsWrittenFile}
 use Rattle.orc_tail.specs.declared.tail.Tail.{Tail}
-use Rattle.orc_file.proofs.StatTests.{some_or}
+use Rattle.orc_file_writer.proofs.StatTests.{some_or}
+use Rattle.orc_file_writer.proofs.WriterLemmas.{cut_at}
 
 -- ---- a stripe
 
@@ -51,13 +52,6 @@ first_some : (n : ℕ) (c : WrittenStripe) (cs : List WrittenStripe) → AreFill
 first_some n c [] h = h.0
 first_some n c (d ∷ ds) h = let e = h.0 in let l = filled_some n d ds h.1 in omega (arith, e, l)
 
--- rows cut at one place
-pub cut_at : (a b x y : List Cell) → length a ≡ length b → a ++ x ≡ b ++ y → (a ≡ b) × (x ≡ y)
-cut_at a b x y l e = (
-  sym (take-append_seam a x) ∙ ap (take (length a)) e ∙ ap (λ (k : ℕ). take k (b ++ y)) l ∙ take-append_seam b y,
-  sym (drop-append_seam a x) ∙ ap (drop (length a)) e ∙ ap (λ (k : ℕ). drop k (b ++ y)) l ∙ drop-append_seam b y,
-)
-
 -- one stripe has no rows of which others have more
 too_few : (n : ℕ) (c d e : WrittenStripe) (es : List WrittenStripe) → AreFilled n (c ∷ []) → AreFilled n (d ∷ e ∷ es) → c.rows ++ [] ≡ d.rows ++ rows_of (e ∷ es) → ⊥
 too_few n c d e es p q same =
@@ -93,7 +87,7 @@ one_written options s t u a b rows p q =
     let tails : t ≡ u = p.tail_is ∙ ap (λ (cs : List WrittenStripe). written_tail options s (infos_of cs) (stats_of cs)) same ∙ sym q.tail_is in (
       tails,
       p.bytes_are
-          ∙ ap (λ (cs : List WrittenStripe). (magic ++ bytes_of cs) ++ tail_text t) same
-          ∙ ap (λ (x : Tail). (magic ++ bytes_of q.stripes_written) ++ tail_text x) tails
+          ∙ ap (λ (cs : List WrittenStripe). (magic ++ written_bytes cs) ++ tail_text t) same
+          ∙ ap (λ (x : Tail). (magic ++ written_bytes q.stripes_written) ++ tail_text x) tails
           ∙ sym q.bytes_are,
     )

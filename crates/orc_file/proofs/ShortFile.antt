@@ -1,7 +1,7 @@
 -- A file that is written has fewer than 2^64 bytes, where the text of its schema's types has fewer than 2^62.
 use Rattle.std.proofs.Common.{ℕ, ◌+◌, ◌*◌, ◌<◌, ◌≤◌, ◌^◌, List, [], ◌∷◌, ◌++◌, length, map, take, Option, Some, sym, ap, subst, arith, length-append}
 use Rattle.std.specs.List.{AllByRecursion, flat_map, list_all}
-use Rattle.orc_stripe_writer.specs.declared.options.Options.{Options}
+use Rattle.orc_row_batch.specs.declared.options.Options.{Options}
 use Rattle.orc_rle.specs.declared.sign.Rle.{Rle}
 use Rattle.orc_rle.specs.declared.sign.Rle.TheVariants.{One, Two}
 use Rattle.orc_wire.specs.Fields.{varint, sized}
@@ -16,18 +16,19 @@ use Rattle.orc_stats.specs.Statistics.{stat, values_body}
 use Rattle.orc_stats.specs.Messages.{message_of}
 use Rattle.orc_stats.specs.Whole.{keeps_sum}
 use Rattle.orc_stats.specs.Joining as joining
-use Rattle.orc_stripe_writer.specs.WrittenStripe.{column_stat}
+use Rattle.orc_stats.specs.ColumnStatistics.{column_stat}
 use Rattle.orc_tail.specs.Layout.{magic}
 use Rattle.orc_tail.specs.Stripes.{stripes_length, most_stripes}
 use Rattle.orc_tail.specs.Statistics.{kind_at, stripe_message, column_stats, file_stats}
 use Rattle.orc_tail.specs.Images.{metadata_of, footer_of, postscript_of, tail_text, types_text}
-use Rattle.orc_file.specs.Writing.{WrittenStripe, IsWrittenAt, AreWrittenStripes, bytes_of, infos_of, stats_of, version_of, written_tail, IsWrittenFile, IsCutOff, IsFrontOfFile}
+use Rattle.orc_file_writer.specs.Writing.{WrittenStripe, IsWrittenAt, AreWrittenStripes, written_bytes, infos_of, stats_of, version_of, written_tail, IsWrittenFile, IsCutOff}
+use Rattle.orc_file.specs.FrontOfFile.{IsFrontOfFile}
 use Rattle.orc_tail.specs.declared.tail.Tail.{Tail}
-use Rattle.orc_file.proofs.WriterLemmas.{all_length}
-use Rattle.orc_file.proofs.TailLimits.{length-of_columns}
+use Rattle.orc_file_writer.proofs.WriterLemmas.{all_length}
 use Rattle.orc_tail.proofs.TextLengths.{number_most, sized_most, known_most, HasShortTexts, stats_most, infos_most, pair_most, five, seven}
 use Rattle.orc_file.proofs.ColumnTexts.{AreShort, stripe_short, short_both, body_short, either_short}
 use Rattle.orc_file.proofs.WrittenLaws.{parts_of, each_got, each_column, file_stat, most_written, written_rows}
+use Rattle.orc_tail.proofs.OfColumns.{length-of_columns}
 
 -- ---- a stripe's statistics
 
@@ -44,7 +45,7 @@ stripe_message_most options s at c columns h =
 
 -- those of all stripes: a field with its key and length for each
 metadata_most : (options : Options) (s : Shape) (at : ℕ) (cs : List WrittenStripe) → width s ≤ 4096 → AreWrittenStripes options s at cs
-    → length (list_text (λ m. sized (stripe_stats_text.text m)) 1 (map stripe_message (stats_of cs))) ≤ 1843220 * length cs + 8192 * length (bytes_of cs)
+    → length (list_text (λ m. sized (stripe_stats_text.text m)) 1 (map stripe_message (stats_of cs))) ≤ 1843220 * length cs + 8192 * length (written_bytes cs)
 metadata_most options s at [] columns h = omega arith
 metadata_most options s at (c ∷ cs) columns h =
     let own = stripe_stats_text.text (stripe_message c.stats) in
@@ -55,20 +56,20 @@ metadata_most options s at (c ∷ cs) columns h =
       sized_most 1 own,
       stripe_message_most options s at c columns h.0,
       metadata_most options s (at + length c.bytes) cs columns h.1,
-      length-append c.bytes (bytes_of cs),
+      length-append c.bytes (written_bytes cs),
     )
 
 -- ---- the file's statistics
 
 module _ (options : Options) (s : Shape) (k : ℕ) (lt : k < width s) (most : ℕ) where
-  column_short : (at : ℕ) (cs : List WrittenStripe) → AreWrittenStripes options s at cs → length (bytes_of cs) ≤ most → AreShort most (kind_at s k) (flat_map (λ p. p) (map (cells s k) (parts_of cs)))
+  column_short : (at : ℕ) (cs : List WrittenStripe) → AreWrittenStripes options s at cs → length (written_bytes cs) ≤ most → AreShort most (kind_at s k) (flat_map (λ p. p) (map (cells s k) (parts_of cs)))
   column_short at [] h few = λ e. tt
   column_short at (c ∷ cs) h few =
-      let i = h.0 in let both = length-append c.bytes (bytes_of cs) in
+      let i = h.0 in let both = length-append c.bytes (written_bytes cs) in
       short_both most (kind_at s k) (cells s k c.rows) (flat_map (λ p. p) (map (cells s k) (parts_of cs)))
       (stripe_short s c.info c.bytes c.rows most k i.read (omega (arith, both, few)) lt) (column_short (at + length c.bytes) cs h.1 (omega (arith, both, few)))
 
-  file_stat_short : (at : ℕ) (cs : List WrittenStripe) → AreWrittenStripes options s at cs → length cs ≤ most_stripes → length (bytes_of cs) ≤ most
+  file_stat_short : (at : ℕ) (cs : List WrittenStripe) → AreWrittenStripes options s at cs → length cs ≤ most_stripes → length (written_bytes cs) ≤ most
       → HasShortTexts most (joining.joined (kind_at s k) (column_stats k (stats_of cs))).body
   file_stat_short at cs h stripes few =
       let all = flat_map (λ p. p) (map (cells s k) (parts_of cs)) in
@@ -84,7 +85,7 @@ version_most Two = pair_most 4 0 12
 -- ---- the file
 
 module _ (options : Options) (s : Shape) (tail : Tail) (bytes : List ℕ) (rows : List Cell) (schema : IsSchema s) (h : IsWrittenFile options s tail bytes rows) where
-  stripe_bytes : length (bytes_of h.stripes_written) ≤ 2 ^ 40
+  stripe_bytes : length (written_bytes h.stripes_written) ≤ 2 ^ 40
   stripe_bytes = let w = h.within in let l = all_length options s 3 h.stripes_written h.are in let m = w.bytes in omega (arith, l, m)
 
   stripes : length h.stripes_written ≤ 65536
@@ -158,8 +159,8 @@ module _ (options : Options) (s : Shape) (tail : Tail) (bytes : List ℕ) (rows 
   written_short types =
       let own = tail_short types in
       let text = subst (λ (x : Tail). length (tail_text x) < 2 ^ 63) (sym h.tail_is) own in
-      let front = length-append magic (bytes_of h.stripes_written) in
-      let all = length-append (magic ++ bytes_of h.stripes_written) (tail_text tail) in
+      let front = length-append magic (written_bytes h.stripes_written) in
+      let all = length-append (magic ++ written_bytes h.stripes_written) (tail_text tail) in
       let e = ap length h.bytes_are in
       omega (arith, text, front, all, e, stripe_bytes)
 

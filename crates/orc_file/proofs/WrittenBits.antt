@@ -3,9 +3,8 @@ use Rattle.std.proofs.Common.{◌≡◌, ℕ, ◌+◌, ◌<◌, ◌≤◌, ◌^�
 use Rattle.std.specs.Prelude.{◌&&◌, nat_lt, nat_le, sum_by}
 use Rattle.std.specs.List.{AllByRecursion, filter_map, cons_option}
 use Rattle.std.specs.Option.{IfSome, option_and_then}
-use Rattle.std.specs.Ordering.{is_gt, int_cmp, nat_cmp, flip_args}
+use Rattle.std.specs.Ordering.{int_cmp, nat_cmp, flip_args}
 use Rattle.std.proofs.lemmas.List.Sums.{sum_by-cons}
-use Rattle.std.specs.declared.cmp.Ordering.{Ordering}
 use Rattle.std.proofs.lemmas.Bool.{ltb-true, and_parts}
 use Rattle.orc_bits.specs.Zigzag.{zig}
 use Rattle.orc_rle.specs.declared.sign.Rle.{Rle}
@@ -25,18 +24,19 @@ use Rattle.orc_values.specs.Fits.{fits, signed_fits, int_fits, RowsFit}
 use Rattle.orc_stats.specs.declared.kind.StatKind.{StatKind}
 use Rattle.orc_stats.specs.declared.kind.StatKind.TheVariants as kind
 use Rattle.orc_stats.specs.declared.stat.Stat.{Stat}
-use Rattle.orc_stats.specs.declared.stat.Body.{Body}
 use Rattle.orc_stats.specs.declared.stat.Body.TheVariants as body
 use Rattle.orc_stats.specs.Kinds.{kind_of}
-use Rattle.orc_stats.specs.Statistics.{onto, reduce, lower, least, greatest, text_cmp, exact_total, in_64, total, lengths, int_of, date_of, bool_of, text_of, bytes_of, children_of, in_u64, children_total, bit, values_body, stat}
+use Rattle.orc_stats.specs.Statistics.{reduce, least, greatest, text_cmp, exact_total, in_64, total, lengths, int_of, date_of, bool_of, text_of, bytes_of, children_of, in_u64, children_total, bit, values_body, stat}
 use Rattle.orc_stats.specs.Joining.{trues_of}
 use Rattle.orc_stats.specs.Messages.{message_of, few_trues, IsStat}
 use Rattle.orc_stats.specs.Whole.{without_sum}
 use Rattle.orc_stats.proofs.Normal.{stat-normal}
-use Rattle.orc_file.specs.Writing.{version_of}
+use Rattle.orc_file_writer.specs.Writing.{version_of}
 use Rattle.orc_tail.proofs.Columns.{le_is}
-use Rattle.orc_file.proofs.StatTests.{values_few, are_of_kind}
-use Rattle.orc_tail.proofs.ReadBits.{BodyBits, where_so}
+use Rattle.orc_stats.proofs.Fitting.{are_of_kind}
+use Rattle.orc_tail.proofs.ReadBits.{BodyBits, where_so, either_bits}
+use Rattle.orc_values.proofs.Lists.{values_few}
+use Rattle.orc_stats.proofs.Least.{least_is}
 
 -- ---- the types
 
@@ -144,18 +144,6 @@ all_small s (c ∷ cs) h = all_picked IsSmall (date_of c) (filter_map date_of cs
 
 -- ---- words of them
 
-lower_is : {A : Type 0} (P : A → Type 0) (b : Bool) (x y : A) → P x → P y → P (if b then y else x)
-lower_is P true x y p q = q
-lower_is P false x y p q = p
-
-lower_onto : {A : Type 0} (P : A → Type 0) (cmp : A → A → Ordering) (x : A) (o : Option A) → P x → IfSome o P → P (onto (lower cmp) x o)
-lower_onto P cmp x None p q = p
-lower_onto P cmp x (Some y) p q = lower_is P (is_gt (cmp x y)) x y p q
-
-pub least_is : {A : Type 0} (P : A → Type 0) (cmp : A → A → Ordering) (xs : List A) → AllByRecursion P xs → IfSome (least cmp xs) P
-least_is P cmp [] h = tt
-least_is P cmp (x ∷ xs) h = lower_onto P cmp x (reduce (lower cmp) xs) h.0 (least_is P cmp xs h.1)
-
 long_if : (b : Bool) (z : ℤ) → signed_fits 63 z ≡ b → IfSome (if b then Some z else None) IsLong
 long_if true z e = long_fits z e
 long_if false z e = tt
@@ -244,10 +232,6 @@ cells_less kind.Dates s cs c h few = cells_bits kind.Dates s cs c h few
 cells_less kind.Texts s cs c h few = let ts = filter_map text_of cs in texts_bits (least text_cmp ts) (greatest text_cmp ts) None tt
 cells_less kind.Bins s cs c h few = (tt, (tt, (tt, (tt, (tt, tt)))))
 cells_less kind.Children s cs c h few = cells_bits kind.Children s cs c h few
-
-either_bits : (b : Bool) (x y : Body) → BodyBits x → BodyBits y → BodyBits (if b then x else y)
-either_bits true x y p q = p
-either_bits false x y p q = q
 
 stat_bits : (x : Stat) → x.count < 2 ^ 64 → BodyBits x.body → column_stats_text.bounded (message_of x)
 stat_bits x few b = (few, (b.0, (b.1.0, (b.1.1.0, (b.1.1.1.0, (b.1.1.1.1.0, (some_top x.nulls, b.1.1.1.1.1)))))))

@@ -3,7 +3,7 @@ use Rattle.std.proofs.Common.{◌≡◌, ℕ, zero, suc, ◌+◌, ◌*◌, ◌<�
 use Rattle.std.specs.Prelude.{◌==◌, slice_get}
 use Rattle.std.specs.List.{AllByRecursion, flat_map, list_all}
 use Rattle.std.proofs.lemmas.Bool.{lt-ltb, eq-eqb}
-use Rattle.orc_stripe_writer.specs.declared.options.Options.{Options}
+use Rattle.orc_row_batch.specs.declared.options.Options.{Options}
 use Rattle.orc_wire.specs.Canonical.{all_both}
 use Rattle.orc_wire.specs.CanonicalMessages.{column_stats_text, stripe_info_text}
 use Rattle.orc_values.specs.Shapes.{Shape, width, shape_at}
@@ -26,27 +26,32 @@ use Rattle.orc_stats.specs.Known.{known_whole}
 use Rattle.orc_stats.specs.declared.kind.StatKind.TheVariants as kind
 use Rattle.std.proofs.lemmas.List.Sums.{sum_by-append}
 use Rattle.orc_column_reader.specs.Stripe.{IsStripe}
-use Rattle.orc_stripe_writer.specs.WrittenStripe.{AreFew, column_stat}
+use Rattle.orc_stripe_writer.specs.WrittenStripe.{AreFew}
+use Rattle.orc_stats.specs.ColumnStatistics.{column_stat}
 use Rattle.orc_tail.specs.Layout.{magic}
-use Rattle.orc_tail.specs.Stripes.{stripe_length, stripe_end, stripes_length, most_stripes}
+use Rattle.orc_tail.specs.Stripes.{stripe_length, stripe_end, stripes_length, most_stripes, stripe_bytes}
 use Rattle.orc_tail.specs.Statistics.{kind_at, of_columns, column_stats, file_stats}
 use Rattle.orc_tail.specs.Tails.{IsTail}
 use Rattle.orc_tail.specs.Images.{image, tail_text, IsWithinLimits, HasBits}
-use Rattle.orc_file.specs.FileRows.{stripe_bytes, joined, AreOfStripes, HasRows, FileIs, cut_rows}
-use Rattle.orc_file.specs.Honest.{AreHonest, Honest, whole_of, told_at, known_whole_of, AreWhole, HasWholeStats}
-use Rattle.orc_file.specs.Counts.{are_laid_with_few_rows, are_stripe_stats, are_all_stats}
-use Rattle.orc_file.specs.Writing.{WrittenStripe, IsWrittenAt, AreWrittenStripes, bytes_of, rows_of, infos_of, stats_of, written_tail, IsWrittenFile}
+use Rattle.orc_file_reader.specs.FileRows.{rows_together, AreOfStripes, HasRows, FileIs, cut_rows}
+use Rattle.orc_file_reader.specs.Honest.{AreHonest, Honest, whole_of, told_at, known_whole_of, AreWhole, HasWholeStats}
+use Rattle.orc_file_writer.specs.Counts.{are_laid_with_few_rows, are_stripe_stats, are_all_stats}
+use Rattle.orc_file_writer.specs.Writing.{WrittenStripe, IsWrittenAt, AreWrittenStripes, written_bytes, rows_of, infos_of, stats_of, written_tail, IsWrittenFile}
 use Rattle.orc_tail.specs.declared.tail.Tail.{Tail}
-use Rattle.orc_file.proofs.WriterLemmas as writer
-use Rattle.orc_file.proofs.WriterLemmas.{both, root_rows, has_root, laid_places, all_length}
-use Rattle.orc_file.proofs.StatTests.{stripe_stats_are, are_of_kind, some_or}
-use Rattle.orc_file.proofs.TailLimits.{tail_within, length-of_columns}
+use Rattle.orc_file_writer.proofs.WriterLemmas as writer
+use Rattle.orc_file_writer.proofs.WriterLemmas.{root_rows, laid_places, all_length}
+use Rattle.orc_file_writer.proofs.StatTests.{stripe_stats_are, some_or}
+use Rattle.orc_stats.proofs.Fitting.{are_of_kind}
+use Rattle.orc_file_writer.proofs.TailLimits.{tail_within}
 use Rattle.orc_file.proofs.WrittenBits.{version_bits, types_bits, FewChildren, cells_stat, cells_whole}
 use Rattle.orc_tail.proofs.ImageLaws.{image_is}
 use Rattle.orc_tail.proofs.Seams.{between}
 use Rattle.orc_file.proofs.ChildrenRoom.{child_number, few_children}
-use Rattle.orc_file.proofs.HonestLemmas.{all_cells}
-use Rattle.orc_file.proofs.RowLemmas.{parts_cut}
+use Rattle.orc_file_reader.proofs.HonestLemmas.{all_cells}
+use Rattle.orc_file_reader.proofs.RowLemmas.{parts_cut}
+use Rattle.std.specs.Cmp.Derive.{both_true}
+use Rattle.orc_values.proofs.Deeper.{width_pos}
+use Rattle.orc_tail.proofs.OfColumns.{at_column, length-of_columns}
 
 -- ---- a stripe
 
@@ -61,7 +66,7 @@ module _ (options : Options) (s : Shape) (at : ℕ) (c : WrittenStripe) (h : IsW
   few_cells k l = let read = h.read in (read.spelled.column k l).few
 
   few_rows : c.info.number_of_rows < 2 ^ 31
-  few_rows = let n = writer.stripe_rows s c.info c.bytes c.rows h.read in let f = few_cells 0 (has_root s) in let e = root_rows s c.rows in omega (arith, n, f, e)
+  few_rows = let n = writer.stripe_rows s c.info c.bytes c.rows h.read in let f = few_cells 0 (width_pos s) in let e = root_rows s c.rows in omega (arith, n, f, e)
 
   stats_pass : are_stripe_stats s c.stats ≡ true
   stats_pass = stripe_stats_are s c.rows c.stats rows_fit few_cells h.counted
@@ -74,13 +79,11 @@ module _ (options : Options) (s : Shape) (at : ℕ) (c : WrittenStripe) (h : IsW
 all_laid : (options : Options) (s : Shape) (at : ℕ) (cs : List WrittenStripe) → AreWrittenStripes options s at cs → are_laid_with_few_rows at (infos_of cs) ≡ true
 all_laid options s at [] h = refl
 all_laid options s at (c ∷ cs) h =
-    both (c.info.offset == at) _ (let i = h.0 in eq-eqb c.info.offset at i.placed)
-    (both (ltb c.info.number_of_rows (2 ^ 31)) _ (lt-ltb c.info.number_of_rows (2 ^ 31) (few_rows options s at c h.0))
-    (ap (λ p. are_laid_with_few_rows p (infos_of cs)) (place_next options s at c h.0) ∙ all_laid options s (at + length c.bytes) cs h.1))
+    both_true {s = c.info.offset == at} (let i = h.0 in eq-eqb c.info.offset at i.placed) (both_true {s = ltb c.info.number_of_rows (2 ^ 31)} (lt-ltb c.info.number_of_rows (2 ^ 31) (few_rows options s at c h.0)) (ap (λ p. are_laid_with_few_rows p (infos_of cs)) (place_next options s at c h.0) ∙ all_laid options s (at + length c.bytes) cs h.1))
 
 all_stats : (options : Options) (s : Shape) (at : ℕ) (cs : List WrittenStripe) → AreWrittenStripes options s at cs → are_all_stats s (stats_of cs) ≡ true
 all_stats options s at [] h = refl
-all_stats options s at (c ∷ cs) h = both (are_stripe_stats s c.stats) _ (stats_pass options s at c h.0) (all_stats options s (at + length c.bytes) cs h.1)
+all_stats options s at (c ∷ cs) h = both_true {s = are_stripe_stats s c.stats} (stats_pass options s at c h.0) (all_stats options s (at + length c.bytes) cs h.1)
 
 all_rows_fit : (options : Options) (s : Shape) (at : ℕ) (cs : List WrittenStripe) → AreWrittenStripes options s at cs → RowsFit s (rows_of cs)
 all_rows_fit options s at [] h = tt
@@ -111,18 +114,18 @@ info_bits options s at (c ∷ cs) h few =
 abbrev pub parts_of : List WrittenStripe → List (List Cell)
 parts_of cs = map (λ (c : WrittenStripe). c.rows) cs
 
-of_stripes : (options : Options) (s : Shape) (file front rest : List ℕ) (at : ℕ) (cs : List WrittenStripe) → AreWrittenStripes options s at cs → at ≡ length front → file ≡ front ++ (bytes_of cs ++ rest)
+of_stripes : (options : Options) (s : Shape) (file front rest : List ℕ) (at : ℕ) (cs : List WrittenStripe) → AreWrittenStripes options s at cs → at ≡ length front → file ≡ front ++ (written_bytes cs ++ rest)
     → AreOfStripes s file (infos_of cs) (parts_of cs)
 of_stripes options s file front rest at [] h place e = tt
 of_stripes options s file front rest at (c ∷ cs) h place e =
     let i = h.0 in
-    let split : file ≡ front ++ (c.bytes ++ (bytes_of cs ++ rest)) = e ∙ ap (λ x. front ++ x) (append_assoc c.bytes (bytes_of cs) rest) in
-    let own : stripe_bytes c.info file ≡ c.bytes = between file front c.bytes (bytes_of cs ++ rest) c.info.offset (stripe_length c.info) split (i.placed ∙ place) (sym (whole options s at c h.0)) in (
+    let split : file ≡ front ++ (c.bytes ++ (written_bytes cs ++ rest)) = e ∙ ap (λ x. front ++ x) (append_assoc c.bytes (written_bytes cs) rest) in
+    let own : stripe_bytes c.info file ≡ c.bytes = between file front c.bytes (written_bytes cs ++ rest) c.info.offset (stripe_length c.info) split (i.placed ∙ place) (sym (whole options s at c h.0)) in (
       subst (λ b. IsStripe s c.info b c.rows) (sym own) i.read,
-      of_stripes options s file (front ++ c.bytes) rest (at + length c.bytes) cs h.1 (omega (arith, place, length-append front c.bytes)) (split ∙ sym (append_assoc front c.bytes (bytes_of cs ++ rest))),
+      of_stripes options s file (front ++ c.bytes) rest (at + length c.bytes) cs h.1 (omega (arith, place, length-append front c.bytes)) (split ∙ sym (append_assoc front c.bytes (written_bytes cs ++ rest))),
     )
 
-rows_joined : (cs : List WrittenStripe) → rows_of cs ≡ joined (parts_of cs)
+rows_joined : (cs : List WrittenStripe) → rows_of cs ≡ rows_together (parts_of cs)
 rows_joined [] = refl
 rows_joined (c ∷ cs) = ap (λ x. c.rows ++ x) (rows_joined cs)
 
@@ -208,11 +211,6 @@ module _ (options : Options) (s : Shape) (k : ℕ) (lt : k < width s) where
 
 -- ---- the columns' statistics
 
-at_column : (f : ℕ → Stat) (c n i : ℕ) → i < n → slice_get (of_columns f c n) i ≡ Some (f (c + i))
-at_column f c zero i l = absurd (omega (arith, l))
-at_column f c (suc n) zero l = let e : c ≡ c + 0 = omega arith in ap (λ k. Some (f k)) e
-at_column f c (suc n) (suc i) l = let e : suc c + i ≡ c + suc i = omega arith in at_column f (suc c) n i (omega (arith, l)) ∙ ap (λ k. Some (f k)) e
-
 pub each_column : (P : Stat → Type 0) (f : ℕ → Stat) (c n : ℕ) → ((k : ℕ) → k < c + n → P (f k)) → AllByRecursion P (of_columns f c n)
 each_column P f c zero p = tt
 each_column P f c (suc n) p = (p c (omega arith), each_column P f (suc c) n (λ k l. p k (omega (arith, l))))
@@ -260,15 +258,15 @@ module _ (options : Options) (s : Shape) (tail : Tail) (bytes : List ℕ) (rows 
   pub written_tail_is : IsSchema s → length bytes < 2 ^ 64 → IsTail bytes tail
   written_tail_is schema few =
       let t = written_tail options s (infos_of h.stripes_written) (stats_of h.stripes_written) in
-      let e : bytes ≡ image (bytes_of h.stripes_written) t = h.bytes_are ∙ append_assoc magic (bytes_of h.stripes_written) (tail_text tail) ∙ ap (λ x. magic ++ (bytes_of h.stripes_written ++ tail_text x)) h.tail_is in
+      let e : bytes ≡ image (written_bytes h.stripes_written) t = h.bytes_are ∙ append_assoc magic (written_bytes h.stripes_written) (tail_text tail) ∙ ap (λ x. magic ++ (written_bytes h.stripes_written ++ tail_text x)) h.tail_is in
       let lim = limits schema in
-      let is = image_is t (bytes_of h.stripes_written) lim (laid_places 3 (infos_of h.stripes_written) (all_laid options s 3 h.stripes_written h.are)) (bits schema) (all_length options s 3 h.stripes_written h.are) (subst (λ (b : List ℕ). length b < 2 ^ 64) e few) in
+      let is = image_is t (written_bytes h.stripes_written) lim (laid_places 3 (infos_of h.stripes_written) (all_laid options s 3 h.stripes_written h.are)) (bits schema) (all_length options s 3 h.stripes_written h.are) (subst (λ (b : List ℕ). length b < 2 ^ 64) e few) in
       subst (λ (x : Tail). IsTail bytes x) (sym h.tail_is) (subst (λ (b : List ℕ). IsTail b t) (sym e) is)
 
   abbrev has_rows : HasRows s bytes (infos_of h.stripes_written) rows
   has_rows = record {
     parts = parts_of h.stripes_written;
-    stripes = of_stripes options s bytes magic (tail_text tail) 3 h.stripes_written h.are refl (h.bytes_are ∙ append_assoc magic (bytes_of h.stripes_written) (tail_text tail));
+    stripes = of_stripes options s bytes magic (tail_text tail) 3 h.stripes_written h.are refl (h.bytes_are ∙ append_assoc magic (written_bytes h.stripes_written) (tail_text tail));
     rows_are = h.rows_are ∙ rows_joined h.stripes_written;
   }
 

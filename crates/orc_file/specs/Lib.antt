@@ -1,12 +1,1 @@
-pub mod FileRows
-pub mod StripeCaps
-pub mod RowFaults
-pub mod RowLimits
-pub mod Honest
-pub mod Counts
-pub mod Counting
-pub mod Writing
-pub mod Held
-pub mod Progress
-pub mod Pushing
-pub mod Loading
+pub mod FrontOfFile

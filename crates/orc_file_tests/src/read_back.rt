@@ -3,7 +3,7 @@
 ghost use Rattle.std.specs.Prelude.{◌≡◌, List, MatchResult, IfOk};
 ghost use Rattle.orc_values.specs.Cells.{Cell};
 ghost use Rattle.orc_values.specs.Views.{views};
-ghost use Rattle.orc_file.specs.FileRows.{FileIs};
+ghost use Rattle.orc_file_reader.specs.FileRows.{FileIs};
 ghost use Rattle.orc_tail.specs.declared.tail.Tail.{Tail};
 ghost use Rattle.orc_tail.specs.declared.fault.FileFault.TheVariants.{OutOfMemory};
 

@@ -5,6 +5,7 @@ use Rattle.orc_values.specs.Columns.{cells}
 use Rattle.orc_values.specs.Fits.{fits}
 use Rattle.orc_values.specs.Shapes.{Shape, width, shape_at}
 use Rattle.orc_values.proofs.Together.{cells-append}
+use Rattle.orc_values.proofs.Lists.{pushed_get}
 use Rattle.orc_wire.specs.declared.row_index.RowIndexEntry.{RowIndexEntry}
 use Rattle.orc_column_reader.specs.Columns.{CellsLeft}
 use Rattle.orc_column_reader.specs.declared.column.ColumnReader.{ColumnReader}
@@ -26,15 +27,6 @@ turned_here s own x y entries before after c entry positions e ps t lt at =
     } in
     subst (λ (z : Shape). Turns z (x c) (y c) (cells s c before) (cells s c after) positions) (sym e)
     (subst (λ (ns : List ℕ). Turns (shape_at s c) (x c) (y c) (cells s c before) (cells s c after) ns) (sym ps) here)
-
-pushed_get : {X : Type 0} (xs : List X) (y : X) (c : ℕ) (r : X) → slice_get (xs ++ y ∷ []) c ≡ Some r → (slice_get xs c ≡ Some r) ⊎ ((c ≡ length xs) × (y ≡ r))
-pushed_get [] y zero r e = inr (refl, cc)
-pushed_get [] y (suc c) r e = absurd cc
-pushed_get (x ∷ xs) y zero r e = inl e
-pushed_get (x ∷ xs) y (suc c) r e = elim (pushed_get xs y c r e) [
-  | inl h ↦ inl h
-  | inr h ↦ inr (omega (arith, h.0), h.1)
-]
 
 pub one_more_left : (s own : Shape) (after : List Cell) (old new : List ColumnReader) (r : ColumnReader) (k : ℕ) → new ≡ old ++ r ∷ [] → length old ≡ k → own ≡ shape_at s k
     → ((c : ℕ) (q : ColumnReader) → slice_get old c ≡ Some q → ColumnIsLeft (shape_at s c) q (cells s c after)) → ColumnIsLeft own r (cells s k after)

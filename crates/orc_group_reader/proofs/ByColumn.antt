@@ -10,10 +10,11 @@ use Rattle.orc_values.specs.Fits.{RowsFit}
 use Rattle.orc_values.specs.Columns.{cells, cells_within}
 use Rattle.orc_values.proofs.Together.{keys_fit, values_fit}
 use Rattle.orc_column_reader.specs.Columns.{CellsLeft, FieldsLeft}
-use Rattle.orc_column_reader.specs.Spellings.{joined}
+use Rattle.orc_column_reader.specs.Spellings.{concatenated}
 use Rattle.orc_column_reader.specs.declared.column.ColumnReader.{ColumnReader}
-use Rattle.orc_column_reader.proofs.ByNumber.{are_lists, joined_parts, map_sizes, are_maps, joined_keys, joined_seconds, pair_sizes, are_records, FieldsFit, split, fit_empty, wide, first_cells}
+use Rattle.orc_column_reader.proofs.ByNumber.{are_lists, joined_parts, map_sizes, are_maps, joined_keys, joined_seconds, pair_sizes, are_records, FieldsFit, split, fit_empty}
 use Rattle.orc_group_reader.specs.Columns.{ColumnIsLeft}
+use Rattle.orc_values.proofs.Deeper.{width_pos, cells-zero}
 
 -- all readers have still to give what is left of the rows
 pub record ReadersLeft (s : Shape) (readers : List ColumnReader) (rows : List Cell) : Type 0 where
@@ -108,7 +109,7 @@ seconds_left k v o r rs cs h =
 
 mutual
   pub left_by_tree : (s : Shape) (rs : List ColumnReader) (cs : List Cell) → ReadersLeft s rs cs → CellsLeft s rs cs
-  left_by_tree s [] cs h = let w = wide s in omega (arith, w, h.counted)
+  left_by_tree s [] cs h = let w = width_pos s in omega (arith, w, h.counted)
   left_by_tree (scalar k o) (r ∷ rs) cs h = let own = h.column 0 r refl in (own.marks, own.spelled)
   left_by_tree (list_of s o) (r ∷ rs) cs h =
       let own = h.column 0 r refl in
@@ -117,8 +118,8 @@ mutual
       let below : ReadersLeft s rs (flat_map parts (values cs)) =
       record { counted = omega (arith, h.counted); fit = subst (RowsFit s) e l.fit; few = λ c lt. h.few (suc c) (omega (arith, lt)); column = λ c b g. h.column (suc c) b g } in
       let inner = left_by_tree s rs (flat_map parts (values cs)) below in
-      let few = below.few 0 (wide s) in
-      (own.marks, (map parts (values cs), l.stand, (rw (map_sizes (values cs)) own.spelled.0, (omega (arith, own.spelled.1, few, ap length (first_cells s (flat_map parts (values cs))), ap length e), subst (CellsLeft s rs) (sym e) inner))))
+      let few = below.few 0 (width_pos s) in
+      (own.marks, (map parts (values cs), l.stand, (rw (map_sizes (values cs)) own.spelled.0, (omega (arith, own.spelled.1, few, ap length (cells-zero s (flat_map parts (values cs))), ap length e), subst (CellsLeft s rs) (sym e) inner))))
   left_by_tree (map_of k v o) (r ∷ rs) cs h =
       let own = h.column 0 r refl in
       let keys = keys_left k v o r rs cs h in
@@ -126,8 +127,8 @@ mutual
       let second = left_by_tree v (drop (width k) rs) (flat_map values_in (values cs)) (seconds_left k v o r rs cs h) in
       let ps = map pairs_in (values cs) in
       let e = joined_keys (values cs) in
-      let few = keys.few 0 (wide k) in
-      let long : length (joined ps) < 2 ^ 31 = omega (arith, few, ap length (first_cells k (flat_map keys_in (values cs))), ap length e, length-map (joined ps) (λ (p : Cell × Cell). p.0)) in
+      let few = keys.few 0 (width_pos k) in
+      let long : length (concatenated ps) < 2 ^ 31 = omega (arith, few, ap length (cells-zero k (flat_map keys_in (values cs))), ap length e, length-map (concatenated ps) (λ (p : Cell × Cell). p.0)) in
       (own.marks, (ps, are_maps k v o cs h.fit, (rw (pair_sizes (values cs)) own.spelled.0, (omega (arith, own.spelled.1, long), (subst (CellsLeft k (take (width k) rs)) (sym e) first, subst (CellsLeft v (drop (width k) rs)) (sym (joined_seconds (values cs))) second)))))
   left_by_tree (struct_of fs o) (r ∷ rs) cs h =
       let own = h.column 0 r refl in

@@ -7,7 +7,8 @@ use Rattle.orc_values.proofs.Together.{values-append}
 use Rattle.orc_column_reader.specs.Columns.{MarksLeft}
 use Rattle.orc_column_reader.specs.Stripe.{Streams, Marks, SpellsValues}
 use Rattle.orc_column_reader.specs.declared.bits.Bits.{Bits}
-use Rattle.orc_row_index.specs.Positions.{IsPosition, reader, octets, octets_position, octets_size, position_size}
+use Rattle.orc_row_index.specs.Positions.{IsPosition, reader, octets_position, octets_size, position_size}
+use Rattle.orc_row_groups.specs.Counts.{octets}
 use Rattle.orc_row_index.specs.RunStreams.{RunStream, no_stream, bit_runs, byte_runs, number_runs, present_runs, value_runs, value_bytes}
 use Rattle.orc_row_index.specs.Walking.{runs, lent_bytes, ArePlaced}
 use Rattle.orc_row_index.specs.declared.placed.PlacedStreams.{PlacedStreams}
@@ -20,7 +21,7 @@ use Rattle.orc_group_reader.proofs.ValuesTurned.{drop_mapped}
 
 -- ---- how many positions there are
 
-runs_alike : (o : ℕ) (a b : RunStream) → RunsAgree o a b → position_size a ≡ position_size b
+pub runs_alike : (o : ℕ) (a b : RunStream) → RunsAgree o a b → position_size a ≡ position_size b
 runs_alike o no_stream no_stream h = refl
 runs_alike o no_stream (bit_runs b) h = absurd h
 runs_alike o no_stream (byte_runs b) h = absurd h
@@ -38,7 +39,7 @@ runs_alike o (number_runs w t a) (bit_runs b) h = absurd h
 runs_alike o (number_runs w t a) (byte_runs b) h = absurd h
 runs_alike o (number_runs w t a) (number_runs v s b) h = refl
 
-octets_alike : (o : ℕ) (a b : Option (List ℕ)) → OctetsAgree o a b → octets_size a ≡ octets_size b
+pub octets_alike : (o : ℕ) (a b : Option (List ℕ)) → OctetsAgree o a b → octets_size a ≡ octets_size b
 octets_alike o None None h = refl
 octets_alike o None (Some b) h = absurd h
 octets_alike o (Some a) None h = absurd h

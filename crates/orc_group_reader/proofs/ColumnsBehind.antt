@@ -17,22 +17,24 @@ use Rattle.orc_column_reader.specs.Faults.{FaultDown, lengths_of}
 use Rattle.orc_column_reader.specs.Numbers.{is_run}
 use Rattle.orc_column_reader.specs.ReaderFaults.{CellsMeet}
 use Rattle.orc_column_reader.specs.RunFaults.{IntegersFirst}
-use Rattle.orc_column_reader.specs.Runs.{Begins}
-use Rattle.orc_column_reader.specs.Spellings.{size, joined}
-use Rattle.orc_column_reader.specs.Stripe.{Streams, version, has_dictionary, most_cells}
+use Rattle.orc_column_reader.specs.Runs.{RunsBegin}
+use Rattle.orc_column_reader.specs.Spellings.{size, concatenated}
+use Rattle.orc_column_reader.specs.Stripe.{Streams, version, has_dictionary}
+use Rattle.orc_values.specs.Limits.{most_cells}
 use Rattle.orc_column_reader.specs.declared.bits.Bits.{Bits}
 use Rattle.orc_column_reader.specs.declared.bytes.RunLengthBytes.{RunLengthBytes}
 use Rattle.orc_rle.specs.ByteRun.{IsByteRun}
 use Rattle.orc_column_reader.specs.declared.column.ColumnReader.{ColumnReader}
 use Rattle.orc_column_reader.specs.declared.column.ValueSource.{ValueSource}
-use Rattle.orc_column_reader.specs.declared.fault.StripeFault.{StripeFault}
+use Rattle.orc_directory.specs.declared.fault.StripeFault.{StripeFault}
 use Rattle.orc_column_reader.specs.declared.numbers.Numbers.{Numbers}
 use Rattle.orc_column_reader.proofs.FirstLemmas.{nothing_first}
 use Rattle.orc_column_reader.proofs.NumbersLemmas.{laws_of}
-use Rattle.orc_row_index.specs.Positions.{octets, octets_position, position_size}
+use Rattle.orc_row_index.specs.Positions.{octets_position, position_size}
+use Rattle.orc_row_groups.specs.Counts.{octets}
 use Rattle.orc_row_index.specs.RunStreams.{RunStream, no_stream, bit_runs, byte_runs, number_runs, present_runs, text_runs, value_runs, value_bytes, text_octets}
 use Rattle.orc_group_reader.specs.Behind.{LeadsTo, LeadsToBit, LeadsIn, StringsBegin, TextsBegin, SizesBegin, IsBehind}
-use Rattle.orc_group_reader.specs.Columns.{CutsOctets, IsCut, IsSource, HasEntries, EntriesOf}
+use Rattle.orc_group_reader.specs.Columns.{CutsOctets, IsWithoutFront, IsSource, HasDictionaryEntries, EntriesOf}
 use Rattle.orc_group_reader.specs.ReadersAt.{StreamAt, MarksAt, ColumnAt, ReadersAt}
 use Rattle.orc_group_reader.specs.Refusals as refusals
 use Rattle.orc_group_reader.specs.declared.entered.Entered.{Entered}
@@ -40,14 +42,9 @@ use Rattle.orc_group_reader.specs.declared.entered.Entered.TheVariants as entere
 use Rattle.orc_group_reader.proofs.ReadersBehind.{NumbersBehind, BytesBehind, BitsBehind, numbers_behind, bytes_behind, bits_behind, first_same}
 use Rattle.orc_group_reader.proofs.SourcesBehind.{MarksBehind, GroupsBehind, TextsBehind, SizesBehind, list_lengths, map_lengths, SourceBehind}
 use Rattle.orc_group_reader.proofs.TreeBehind.{ColumnBehind, TreeBehind, renumbered, tree_down}
+use Rattle.orc_group_reader.proofs.StreamsEntered.{same_two, same_three}
 
 -- ---- one stream, by the numbers of its position
-
-same_two : (o s p t : ℕ) → o ∷ s ∷ [] ≡ p ∷ t ∷ [] → (o ≡ p) × (s ≡ t)
-same_two o s p t e = (cc, cc)
-
-same_three : (o s b p t c : ℕ) → o ∷ s ∷ b ∷ [] ≡ p ∷ t ∷ c ∷ [] → (o ≡ p) × (s ≡ t) × (b ≡ c)
-same_three o s b p t c e = (cc, cc, cc)
 
 leads_here : {A : Type 0} (R : List ℕ → List A → Type 0) (bytes ps : List ℕ) (o s p t k : ℕ) → ps ≡ o ∷ s ∷ [] → ps ≡ p ∷ t ∷ [] → LeadsTo R bytes p t k → LeadsTo R bytes o s k
 leads_here R bytes ps o s p t k e d h =
@@ -84,26 +81,26 @@ numbers_source v s b last (entered.Numbers r) rest k source h is p = (
 )
 
 -- what is passed is what comes first
-passed_is : (v : Rle) (s : Sign) (b : List ℕ) (k : ℕ) (r : Numbers) (all : List ℤ) → (h : NumbersBehind v s b k r) → length all ≡ k → Begins (is_run v s) b all → h.passed ≡ all
+passed_is : (v : Rle) (s : Sign) (b : List ℕ) (k : ℕ) (r : Numbers) (all : List ℤ) → (h : NumbersBehind v s b k r) → length all ≡ k → RunsBegin (is_run v s) b all → h.passed ≡ all
 passed_is v s b k r all h long begins =
     let own = h.first [] (nothing_first (is_run r.version r.sign) (drop r.used r.run.values) (drop r.at r.bytes.now)) in
-    first_same (is_run v s) (laws_of v s).one b h.passed all (h.counted ∙ sym long) (subst (λ (t : List ℤ). Begins (is_run v s) b t) (append-nil h.passed) own) begins
+    first_same (is_run v s) (laws_of v s).one b h.passed all (h.counted ∙ sym long) (subst (λ (t : List ℤ). RunsBegin (is_run v s) b t) (append-nil h.passed) own) begins
 
 -- ---- values
 
 groups_behind : (x : Streams) (vs : List Cell) (n : ℕ) (rest : List ℕ) (source : ValueSource) → NumbersBehind (version x) Unsigned (x.stream 2) (length vs) source.numbers × (source.octets.rest.now ≡ rest) → rest ≡ drop n (x.stream 1) → StringsBegin x vs n
     → GroupsBehind x (length vs) source
 groups_behind x vs n rest source h cut g =
-    let behind : drop n (x.stream 1) ≡ g.1 = ap (λ (i : ℕ). drop i (x.stream 1)) (sym g.3) ∙ ap (drop (length (joined g.0))) g.5 ∙ drop-append_seam (joined g.0) g.1 in
+    let behind : drop n (x.stream 1) ≡ g.1 = ap (λ (i : ℕ). drop i (x.stream 1)) (sym g.3) ∙ ap (drop (length (concatenated g.0))) g.5 ∙ drop-append_seam (concatenated g.0) g.1 in
     record {
       numbers = h.0;
       groups = g.0;
       sizes = passed_is (version x) Unsigned (x.stream 2) (length vs) source.numbers (map size g.0) h.0 (length-map g.0 size ∙ g.2) g.4;
-      content = g.5 ∙ ap (λ (t : List ℕ). joined g.0 ++ t) (sym (h.1 ∙ cut ∙ behind));
+      content = g.5 ∙ ap (λ (t : List ℕ). concatenated g.0 ++ t) (sym (h.1 ∙ cut ∙ behind));
     }
 
-texts_behind : (d : Bool) (x : Streams) (vs : List Cell) (n : ℕ) (last : List ℕ) (own : Entered) (rest : List ℕ) (source : ValueSource) → StreamAt (text_runs d x) last own → IsSource own rest source → IsCut (text_octets d x) n rest
-    → LeadsIn (text_runs d x) (length vs) last → HasEntries d x source.entries → TextsBegin d x vs n → TextsBehind d x (length vs) source
+texts_behind : (d : Bool) (x : Streams) (vs : List Cell) (n : ℕ) (last : List ℕ) (own : Entered) (rest : List ℕ) (source : ValueSource) → StreamAt (text_runs d x) last own → IsSource own rest source → IsWithoutFront (text_octets d x) n rest
+    → LeadsIn (text_runs d x) (length vs) last → HasDictionaryEntries d x source.entries → TextsBegin d x vs n → TextsBehind d x (length vs) source
 texts_behind true x vs n last own rest source h is cut p has begin = (has, (numbers_source (version x) Unsigned (x.stream 1) last own rest (length vs) source h is p).0)
 texts_behind false x vs n last own rest source h is cut p has begin = (has, groups_behind x vs n rest source (numbers_source (version x) Unsigned (x.stream 2) last own rest (length vs) source h is p) cut begin)
 
@@ -125,7 +122,7 @@ sizes_behind x count lengths sizes source h long same begin room =
       room = room;
     }
 
-scalar_behind : (t : Scalar) (o : List ℕ) (x : Streams) (vs : List Cell) (n : ℕ) (last : List ℕ) (own : Entered) (rest : List ℕ) (source : ValueSource) → StreamAt (value_runs (scalar t o) x) last own → IsSource own rest source → IsCut (value_bytes (scalar t o) x) n rest
+scalar_behind : (t : Scalar) (o : List ℕ) (x : Streams) (vs : List Cell) (n : ℕ) (last : List ℕ) (own : Entered) (rest : List ℕ) (source : ValueSource) → StreamAt (value_runs (scalar t o) x) last own → IsSource own rest source → IsWithoutFront (value_bytes (scalar t o) x) n rest
     → LeadsIn (value_runs (scalar t o) x) (length vs) last → EntriesOf (scalar t o) x source.entries → SizesBegin (scalar t o) x vs n → SourceBehind (scalar t o) x vs source
 scalar_behind kind.Boolean o x vs n last own rest source h is cut p has begin = bits_source (x.stream 1) last own rest (length vs) source h is p
 scalar_behind kind.Byte o x vs n last own rest source h is cut p has begin = bytes_source (x.stream 1) last own rest (length vs) source h is p
@@ -136,7 +133,7 @@ scalar_behind kind.Date o x vs n last own rest source h is cut p has begin = (nu
 scalar_behind kind.Binary o x vs n last own rest source h is cut p has begin = groups_behind x vs n rest source (numbers_source (version x) Unsigned (x.stream 2) last own rest (length vs) source h is p) cut begin
 scalar_behind kind.String o x vs n last own rest source h is cut p has begin = texts_behind (has_dictionary x) x vs n last own rest source h is cut p has begin
 
-source_behind : (s : Shape) (x : Streams) (vs : List Cell) (n : ℕ) (last : List ℕ) (own : Entered) (rest : List ℕ) (source : ValueSource) → StreamAt (value_runs s x) last own → IsSource own rest source → IsCut (value_bytes s x) n rest
+source_behind : (s : Shape) (x : Streams) (vs : List Cell) (n : ℕ) (last : List ℕ) (own : Entered) (rest : List ℕ) (source : ValueSource) → StreamAt (value_runs s x) last own → IsSource own rest source → IsWithoutFront (value_bytes s x) n rest
     → LeadsIn (value_runs s x) (length vs) last → EntriesOf s x source.entries → source.room ≡ most_cells → SizesBegin s x vs n → SourceBehind s x vs source
 source_behind (scalar t o) x vs n last own rest source h is cut p has room begin = scalar_behind t o x vs n last own rest source h is cut p has begin
 source_behind (list_of s o) x vs n last own rest source h is cut p has room begin =
@@ -147,7 +144,7 @@ source_behind (struct_of fs o) x vs n last own rest source h is cut p has room b
 
 -- ---- a column
 
-cut_here : (content : Option (List ℕ)) (n : ℕ) (ps rest behind last : List ℕ) → CutsOctets content ps rest behind → ps ≡ octets_position content n ++ last → (behind ≡ last) × IsCut content n rest
+cut_here : (content : Option (List ℕ)) (n : ℕ) (ps rest behind last : List ℕ) → CutsOctets content ps rest behind → ps ≡ octets_position content n ++ last → (behind ≡ last) × IsWithoutFront content n rest
 cut_here None n ps rest behind last h e = (h ∙ e, tt)
 cut_here (Some b) n ps rest behind last h e =
     let same = heads h.0 n behind last (sym h.1 ∙ e) in
@@ -186,7 +183,7 @@ column_behind s x m before ps reader b at =
 
 -- ---- all columns
 
-entry_there : (xs : List RowIndexEntry) (i : ℕ) → i < length xs → (x : RowIndexEntry) × (slice_get xs i ≡ Some x)
+pub entry_there : (xs : List RowIndexEntry) (i : ℕ) → i < length xs → (x : RowIndexEntry) × (slice_get xs i ≡ Some x)
 entry_there [] i lt = absurd (omega (arith, lt))
 entry_there (x ∷ xs) zero lt = (x, refl)
 entry_there (x ∷ xs) (suc i) lt = entry_there xs i (omega (arith, lt))

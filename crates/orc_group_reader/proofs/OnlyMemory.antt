@@ -1,7 +1,7 @@
 -- The one refusal that needs no reason.
 use Rattle.std.proofs.Common.{◌≡◌, ◌≢◌, refl}
-use Rattle.orc_column_reader.specs.declared.fault.StripeFault.{StripeFault}
-use Rattle.orc_column_reader.specs.declared.fault.StripeFault.TheVariants as fault
+use Rattle.orc_directory.specs.declared.fault.StripeFault.{StripeFault}
+use Rattle.orc_directory.specs.declared.fault.StripeFault.TheVariants as fault
 
 pub only_memory : (f : StripeFault) → (f ≢ fault.OutOfMemory → ⊥) → f ≡ fault.OutOfMemory
 only_memory fault.BadDirectory h = absurd (h (λ e. cc))

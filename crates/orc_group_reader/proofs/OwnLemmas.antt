@@ -11,19 +11,20 @@ use Rattle.orc_column_reader.specs.Stripe.{Streams, version, version_at, has_dic
 use Rattle.orc_column_reader.specs.declared.entry.Entry.{Entry}
 use Rattle.orc_wire.specs.declared.encoding.Encoding.{Encoding}
 use Rattle.orc_wire.specs.EncodingKinds.{is_dictionary}
-use Rattle.orc_row_index.specs.Positions.{IsPosition, reader, octets, octets_position}
+use Rattle.orc_row_index.specs.Positions.{IsPosition, reader, octets_position}
+use Rattle.orc_row_groups.specs.Counts.{octets}
 use Rattle.orc_row_index.specs.RunStreams.{RunStream, value_runs, value_bytes}
 use Rattle.orc_row_index.specs.Walking.{runs, lent_bytes, ArePlaced, HasOctets}
-use Rattle.orc_row_index.proofs.ColumnPlaces.{octets_of_values}
+use Rattle.orc_row_groups.proofs.Counted.{octets_of_values}
 use Rattle.orc_row_index.specs.declared.placed.PlacedStreams.{PlacedStreams}
-use Rattle.orc_group_reader.specs.Columns.{CutsOctets, IsCut, OctetsAgree, HasEntries, EntriesOf, OwnTurns}
+use Rattle.orc_group_reader.specs.Columns.{CutsOctets, IsWithoutFront, OctetsAgree, HasDictionaryEntries, EntriesOf, OwnTurns}
 use Rattle.orc_group_reader.specs.Refusals.{EndsBefore}
 use Rattle.orc_group_reader.specs.Streams.{RunsAgree, NeverEnters}
 use Rattle.orc_group_reader.proofs.SomeValues.{own_some}
 
 -- ---- bytes as they are
 
-pub cut_turned : (b a : Option (List ℕ)) (n : ℕ) (ps rest behind last : List ℕ) → OctetsAgree n b a → CutsOctets b ps rest behind → ps ≡ octets_position a n ++ last → (behind ≡ last) × IsCut a n rest
+pub cut_turned : (b a : Option (List ℕ)) (n : ℕ) (ps rest behind last : List ℕ) → OctetsAgree n b a → CutsOctets b ps rest behind → ps ≡ octets_position a n ++ last → (behind ≡ last) × IsWithoutFront a n rest
 cut_turned None None n ps rest behind last agree h e = (h ∙ e, tt)
 cut_turned None (Some d) n ps rest behind last agree h e = absurd agree
 cut_turned (Some d) None n ps rest behind last agree h e = absurd agree
@@ -47,7 +48,7 @@ same_dictionary x y entries e same d =
     let v : version y ≡ version x = ap (λ (k : Encoding). version_at k.kind) e in
     record { counted = d.counted ∙ ap (λ (k : Encoding). k.dictionary_size) e; spelled = (rw (v, same.0) at d.spelled.0, d.spelled.1 ∙ same.1) }
 
-entries_here : (d : Bool) (x y : Streams) (entries : Option (Vec Entry Global)) → y.encoding ≡ x.encoding → (d ≡ true → (y.stream 2 ≡ x.stream 2) × (y.stream 3 ≡ x.stream 3)) → HasEntries d y entries → HasEntries d x entries
+entries_here : (d : Bool) (x y : Streams) (entries : Option (Vec Entry Global)) → y.encoding ≡ x.encoding → (d ≡ true → (y.stream 2 ≡ x.stream 2) × (y.stream 3 ≡ x.stream 3)) → HasDictionaryEntries d y entries → HasDictionaryEntries d x entries
 entries_here true x y (Some entries) e same h = same_dictionary x y (map entry_bytes entries.items) e (same refl) h
 entries_here true x y None e same h = absurd h
 entries_here false x y (Some entries) e same h = absurd h
@@ -63,7 +64,7 @@ entries_turned (scalar kind.Date o) x y entries e same h = tt
 entries_turned (scalar kind.Binary o) x y entries e same h = tt
 entries_turned (scalar kind.String o) x y entries e same h =
     let d : has_dictionary y ≡ has_dictionary x = ap (λ (k : Encoding). is_dictionary k.kind) e in
-    entries_here (has_dictionary x) x y entries e same (subst (λ (b : Bool). HasEntries b y entries) d h)
+    entries_here (has_dictionary x) x y entries e same (subst (λ (b : Bool). HasDictionaryEntries b y entries) d h)
 entries_turned (list_of s o) x y entries e same h = tt
 entries_turned (map_of k v o) x y entries e same h = tt
 entries_turned (struct_of fs o) x y entries e same h = tt
@@ -94,7 +95,7 @@ dictionary_there (struct_of fs o) x y vs e same h none = none
 -- ---- the stream of runs
 
 pub record AtOwn (s : Shape) (x : Streams) (placed : PlacedStreams) (before : List Cell) (rest behind : List ℕ) : Type 0 where
-  pub cut : IsCut (value_bytes s x) (octets (values before)) rest
+  pub cut : IsWithoutFront (value_bytes s x) (octets (values before)) rest
   pub place : IsPosition reader (value_runs s x) (length (values before)) behind
   pub agree : RunsAgree (get_or behind 0 0) (runs placed.own) (value_runs s x)
 
@@ -104,7 +105,7 @@ at_own s x y placed before after ps rest behind last are t e h =
     let agree = subst (λ (c : Option (List ℕ)). OctetsAgree (octets before) c (value_bytes s x)) (sym are.content_is) t.content_same in
     let k = cut_turned (lent_bytes placed.content) (value_bytes s x) (octets before) ps rest behind last agree h e in
     record {
-      cut = subst (λ (n : ℕ). IsCut (value_bytes s x) n rest) (sym (octets_of_values before)) k.1;
+      cut = subst (λ (n : ℕ). IsWithoutFront (value_bytes s x) n rest) (sym (octets_of_values before)) k.1;
       place = subst (λ (p : List ℕ). IsPosition reader (value_runs s x) (length (values before)) p) (sym k.0) t.place;
       agree = subst (λ (r : RunStream). RunsAgree (get_or behind 0 0) r (value_runs s x)) (sym are.own_is) (subst (λ (p : List ℕ). RunsAgree (get_or p 0 0) (value_runs s y) (value_runs s x)) (sym k.0) t.own_same);
     }

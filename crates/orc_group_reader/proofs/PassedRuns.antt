@@ -7,7 +7,7 @@ use Rattle.orc_rle.specs.Stream.{AreRuns, IsStream, StopsWithin, at_place, RunsL
 use Rattle.orc_rle.specs.declared.fault.RunFault.{RunFault}
 use Rattle.orc_rle.specs.declared.fault.RunFault.TheVariants as run
 use Rattle.orc_rle.proofs.StreamLemmas.{Going, fronts, runs_push, one_stream}
-use Rattle.orc_column_reader.specs.Runs.{RunsFirst, Begins}
+use Rattle.orc_column_reader.specs.Runs.{RunsFirst, RunsBegin}
 use Rattle.orc_column_reader.specs.RunsMet.{StopsThere, RunsMeet}
 use Rattle.orc_column_reader.proofs.RunsLemmas.{RunLaws}
 use Rattle.orc_group_reader.specs.RunsPassed.{IsLastRun}
@@ -191,7 +191,7 @@ module _ {A : Type 0} (R : List ℕ → List A → Type 0) (bytes : List ℕ) (o
         }
   ]
 
-  pub first_whole : (more : List A) → RunsFirst R left (drop at bytes) more → Begins R bytes (values ++ more)
+  pub first_whole : (more : List A) → RunsFirst R left (drop at bytes) more → RunsBegin R bytes (values ++ more)
   first_whole more h =
       let extra = h.2 in
       let read = h.4.0 in

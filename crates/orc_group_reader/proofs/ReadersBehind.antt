@@ -19,7 +19,7 @@ use Rattle.orc_column_reader.specs.Bytes.{BytesFirst}
 use Rattle.orc_column_reader.specs.Needs.{BoolsBegin}
 use Rattle.orc_column_reader.specs.Numbers.{is_run, NumbersLeft, NumbersFirst}
 use Rattle.orc_column_reader.specs.RunFaults.{no_run}
-use Rattle.orc_column_reader.specs.Runs.{RunsFirst, Begins}
+use Rattle.orc_column_reader.specs.Runs.{RunsFirst, RunsBegin}
 use Rattle.orc_column_reader.specs.RunsMet.{RunsMeet, NumbersMeet, BytesMeet, BitsMeet}
 use Rattle.orc_column_reader.specs.declared.bits.Bits.{Bits}
 use Rattle.orc_column_reader.specs.declared.bytes.RunLengthBytes.{RunLengthBytes}
@@ -48,12 +48,12 @@ common_of {A = A} R one (p ∷ ps) (q ∷ qs) f g x y v w h k e =
       ap (λ (t : List A). t ++ r.0) h.4 ∙ append_assoc p.1 h.1 r.0 ∙ (λ i. same.1 i ++ r.2 i) ∙ sym (append_assoc q.1 k.1 r.1) ∙ ap (λ (t : List A). t ++ r.1) (sym k.4),
     )
 
-pub common : {A : Type 0} (R : List ℕ → List A → Type 0) → One R → (bytes : List ℕ) (a b : List A) → Begins R bytes a → Begins R bytes b → (t : List A) × (u : List A) × (a ++ t ≡ b ++ u)
+pub common : {A : Type 0} (R : List ℕ → List A → Type 0) → One R → (bytes : List ℕ) (a b : List A) → RunsBegin R bytes a → RunsBegin R bytes b → (t : List A) × (u : List A) × (a ++ t ≡ b ++ u)
 common {A = A} R one bytes a b h k =
     let c = common_of R one h.4.0 k.4.0 h.0 k.0 h.1 k.1 (a ++ h.2) (b ++ k.2) h.4.1 k.4.1 (sym h.3 ∙ k.3) in
     (h.2 ++ c.0, k.2 ++ c.1, sym (append_assoc a h.2 c.0) ∙ c.2 ∙ append_assoc b k.2 c.1)
 
-pub first_same : {A : Type 0} (R : List ℕ → List A → Type 0) → One R → (bytes : List ℕ) (a b : List A) → length a ≡ length b → Begins R bytes a → Begins R bytes b → a ≡ b
+pub first_same : {A : Type 0} (R : List ℕ → List A → Type 0) → One R → (bytes : List ℕ) (a b : List A) → length a ≡ length b → RunsBegin R bytes a → RunsBegin R bytes b → a ≡ b
 first_same {A = A} R one bytes a b e h k =
     let c = common R one bytes a b h k in
     sym (take-append_seam a c.0) ∙ ap (take (length a)) c.2 ∙ ap (λ (n : ℕ). take n (b ++ c.1)) e ∙ take-append_seam b c.1
@@ -64,7 +64,7 @@ pub record NumbersBehind (v : Rle) (s : Sign) (bytes : List ℕ) (k : ℕ) (r : 
   pub passed : List ℤ
   pub counted : length passed ≡ k
   pub meets : (n : ℕ) (f : RunFault) → NumbersMeet r n f → StopsWithin (is_run v s) (no_run v s) (k + n) bytes f
-  pub first : (more : List ℤ) → NumbersFirst r more → Begins (is_run v s) bytes (passed ++ more)
+  pub first : (more : List ℤ) → NumbersFirst r more → RunsBegin (is_run v s) bytes (passed ++ more)
   pub left : (more : List ℤ) → NumbersLeft r more → IsStream (is_run v s) bytes (passed ++ more)
 
 pub numbers_behind : (v : Rle) (s : Sign) (bytes : List ℕ) (offset skip k : ℕ) (r : Numbers) → NumbersAt v s bytes offset skip r → LeadsTo (is_run v s) bytes offset skip k → NumbersBehind v s bytes k r
@@ -97,7 +97,7 @@ pub record BytesBehind (bytes : List ℕ) (k : ℕ) (r : RunLengthBytes) : Type 
   pub passed : List ℕ
   pub counted : length passed ≡ k
   pub meets : (n : ℕ) (f : RunFault) → BytesMeet r n f → StopsWithin IsByteRun NoByteRun (k + n) bytes f
-  pub first : (more : List ℕ) → BytesFirst r more → Begins IsByteRun bytes (passed ++ more)
+  pub first : (more : List ℕ) → BytesFirst r more → RunsBegin IsByteRun bytes (passed ++ more)
 
 -- of a reader that has passed these
 abbrev bytes_of : (bytes : List ℕ) (offset skip k : ℕ) (r : RunLengthBytes) (passed left : List ℕ) → r.bytes.now ≡ bytes → drop r.used r.run.values ≡ left → LeadsTo IsByteRun bytes offset skip k → length passed ≡ skip
@@ -154,7 +154,7 @@ passed_more {A = A} R bytes offset start at passed left x p = record {
 }
 
 -- booleans that come first, behind which these digits come
-bools_more : (bytes packed rest : List ℕ) (before more : List Bool) → BoolsBegin bytes before → Begins IsByteRun bytes packed → length before ≤ length (digits 8 packed) → drop (length before) (digits 8 packed) ≡ map digit more ++ rest
+bools_more : (bytes packed rest : List ℕ) (before more : List Bool) → BoolsBegin bytes before → RunsBegin IsByteRun bytes packed → length before ≤ length (digits 8 packed) → drop (length before) (digits 8 packed) ≡ map digit more ++ rest
     → BoolsBegin bytes (before ++ more)
 bools_more bytes packed rest before more b runs le behind =
     let k = length before in

@@ -21,7 +21,7 @@ use Rattle.orc_column_reader.specs.Bits.{BitsLeft}
 use Rattle.orc_column_reader.specs.Bytes.{BytesLeft}
 use Rattle.orc_column_reader.specs.Columns.{MarksLeft, IsBool, IsByte, IsInt, IsDate, IsText, IsBinary, IsEntry, entry_bytes, StringsLeft, TextsLeft, ScalarLeft, FieldsLeft, CellsLeft}
 use Rattle.orc_column_reader.specs.Numbers.{is_run, NumbersLeft}
-use Rattle.orc_column_reader.specs.Spellings.{Standing, size, joined}
+use Rattle.orc_column_reader.specs.Spellings.{Standing, size, concatenated}
 use Rattle.orc_column_reader.specs.Stripe.{Streams, version, has_dictionary, in_present, in_data, in_length}
 use Rattle.orc_column_reader.specs.declared.bits.Bits.{Bits}
 use Rattle.orc_column_reader.specs.declared.bytes.RunLengthBytes.{RunLengthBytes}
@@ -30,17 +30,17 @@ use Rattle.orc_column_reader.specs.declared.column.ValueSource.{ValueSource}
 use Rattle.orc_column_reader.specs.declared.entry.Entry.{Entry}
 use Rattle.orc_column_reader.specs.declared.numbers.Numbers.{Numbers}
 use Rattle.orc_column_reader.proofs.BitsLemmas.{no_digit}
-use Rattle.orc_column_reader.proofs.ByNumber.{wide}
 use Rattle.orc_column_reader.proofs.NumbersLemmas.{laws_of, byte_laws}
 use Rattle.orc_column_reader.proofs.OneRows.{one_dictionary}
 use Rattle.orc_row_index.specs.RunStreams.{RunStream, bit_runs, byte_runs, number_runs, value_runs, value_bytes, text_runs, text_octets}
-use Rattle.orc_group_reader.specs.Columns.{CutsOctets, IsSource, HasEntries}
+use Rattle.orc_group_reader.specs.Columns.{CutsOctets, IsSource, HasDictionaryEntries}
 use Rattle.orc_group_reader.specs.ReadersAt.{NumbersAt, BytesAt, HoldsFirst, BitsAt, StreamAt, MarksAt, SourceAt, ColumnAt, ReadersAt}
 use Rattle.orc_group_reader.specs.Refusals.{present_size}
 use Rattle.orc_group_reader.specs.declared.entered.Entered.{Entered}
 use Rattle.orc_group_reader.specs.declared.entered.Entered.TheVariants as entered
 use Rattle.orc_group_reader.proofs.ByColumn.{get_take, get_drop}
 use Rattle.orc_group_reader.proofs.ValuesTurned.{rest_of}
+use Rattle.orc_values.proofs.Deeper.{width_pos}
 
 -- ---- streams of runs
 
@@ -235,7 +235,7 @@ module _ (s : Shape) (x : Streams) (c : ℕ) (positions : List ℕ) (a b : Value
       bits_as bytes m.last a.bits b.bits first (subst (λ (t : List ℕ). BitsOf bytes t b.bits) (sym cut.positions_are) second)
 
 texts_as : (o : List ℕ) (x : Streams) (c : ℕ) (positions : List ℕ) (a b : ValueSource) → SourceAt (scalar kind.String o) x c positions a → SourceAt (scalar kind.String o) x c positions b
-    → (d : Bool) → has_dictionary x ≡ d → (first second : Option (Vec Entry Global)) → HasEntries d x first → HasEntries d x second → (all : List Cell) → TextsLeft first a all → TextsLeft second b all
+    → (d : Bool) → has_dictionary x ≡ d → (first second : Option (Vec Entry Global)) → HasDictionaryEntries d x first → HasDictionaryEntries d x second → (all : List Cell) → TextsLeft first a all → TextsLeft second b all
 texts_as o x c positions a b m n true e (Some first) (Some second) p q all h =
     let own = first.items in
     let numbers = own_numbers (scalar kind.String o) x c positions a b m n (version x) Unsigned (in_data x) (ap (λ (d : Bool). text_runs d x) e) in
@@ -347,17 +347,17 @@ others_as name s fs ones others h = record {
 mutual
   all_as : (s : Shape) (ones others : List ColumnReader) (cs : List Cell) → AllGiveAs s ones others → CellsLeft s ones cs → CellsLeft s others cs
   all_as s [] others cs h left = absurd left
-  all_as s (p ∷ ones) [] cs h left = let w = wide s in omega (arith, w, h.second)
+  all_as s (p ∷ ones) [] cs h left = let w = width_pos s in omega (arith, w, h.second)
   all_as (scalar k o) (p ∷ ones) (q ∷ others) cs h left = let own = h.column 0 p q refl refl in (own.marks (map is_value cs) left.0, own.source (values cs) left.1)
   all_as (list_of s o) (p ∷ ones) (q ∷ others) cs h left =
       let own = h.column 0 p q refl refl in
       let below : AllGiveAs s ones others = record { first = omega (arith, h.first); second = omega (arith, h.second); column = λ c a b f g. h.column (suc c) a b f g } in
       let l = left.1 in
-      (own.marks (map is_value cs) left.0, (l.0, l.1, (own.source.0 (map size l.0) l.2.0, (subst (λ (n : ℕ). length (joined l.0) ≤ n) own.source.1 l.2.1.0, all_as s ones others (joined l.0) below l.2.1.1))))
+      (own.marks (map is_value cs) left.0, (l.0, l.1, (own.source.0 (map size l.0) l.2.0, (subst (λ (n : ℕ). length (concatenated l.0) ≤ n) own.source.1 l.2.1.0, all_as s ones others (concatenated l.0) below l.2.1.1))))
   all_as (map_of k v o) (p ∷ ones) (q ∷ others) cs h left =
       let own = h.column 0 p q refl refl in
       let l = left.1 in
-      let ps = joined l.0 in
+      let ps = concatenated l.0 in
       let first = all_as k (take (width k) ones) (take (width k) others) (map (λ (t : Cell × Cell). t.0) ps) (keys_as k v o p q ones others h) l.2.1.1.0 in
       let second = all_as v (drop (width k) ones) (drop (width k) others) (map (λ (t : Cell × Cell). t.1) ps) (seconds_as k v o p q ones others h) l.2.1.1.1 in
       (own.marks (map is_value cs) left.0, (l.0, l.1, (own.source.0 (map size l.0) l.2.0, (subst (λ (n : ℕ). length ps ≤ n) own.source.1 l.2.1.0, (first, second)))))

@@ -21,11 +21,11 @@ within bytes other total offset skip digits n b agree = let le = offset_within I
 
 -- where a right position was gone to, the booleans from there on are left
 pub bits_there : (bytes other : List ℕ) (all : List Bool) (left : List ℕ) (offset skip passed n at : ℕ) → BeginsBits other (length all) offset skip passed n → IsBitStream other all → AgreeFrom offset bytes other
-    → SeeksBits bytes offset skip passed at left → seek.BitsLeft left (drop at bytes) passed (drop n all)
+    → SeeksBits bytes offset skip passed at left → seek.BitsPending left (drop at bytes) passed (drop n all)
 bits_there bytes other all left offset skip passed n at b stream agree s =
     let le = within bytes other (length all) offset skip passed n b agree in
     let there = bit_seek_alone bytes other offset skip passed at left agree.same le.1 s in
-    subst (λ (t : List ℕ). seek.BitsLeft left t passed (drop n all)) (sym (rest_alone bytes other offset s.1.len at agree.same s.1.at_is)) (bits_go_on other offset skip passed n at left all b stream there)
+    subst (λ (t : List ℕ). seek.BitsPending left t passed (drop n all)) (sym (rest_alone bytes other offset s.1.len at agree.same s.1.at_is)) (bits_go_on other offset skip passed n at left all b stream there)
 
 -- and it can be gone to
 pub bits_not_refused : (bytes other : List ℕ) (all : List Bool) (offset skip passed n : ℕ) → BeginsBits other (length all) offset skip passed n → IsBitStream other all → AgreeFrom offset bytes other
@@ -38,7 +38,7 @@ bits_not_refused bytes other all offset skip passed n b stream agree never =
 -- ---- a reader that holds the byte in which the position stands
 
 pub held_left : (r : Bits) (left rest : List ℕ) (passed : ℕ) (all : List Bool) → passed ≤ 8 → slice_get left 0 ≡ Some r.held → r.left ≡ 8 - passed → drop r.bytes.used r.bytes.run.values ≡ drop 1 left → drop r.bytes.at r.bytes.bytes.now ≡ rest
-    → seek.BitsLeft left rest passed all → BitsLeft r all
+    → seek.BitsPending left rest passed all → BitsLeft r all
 held_left r [] rest passed all few first many pending here h = absurd cc
 held_left r (f ∷ more) rest passed all few first many pending here h =
     let same : f ≡ r.held = cc in
@@ -54,7 +54,7 @@ held_left r (f ∷ more) rest passed all few first many pending here h =
     }
 
 -- where nothing of a byte is passed, none is held
-pub none_left : (r : Bits) (left rest : List ℕ) (all : List Bool) → r.left ≡ 0 → drop r.bytes.used r.bytes.run.values ≡ left → drop r.bytes.at r.bytes.bytes.now ≡ rest → seek.BitsLeft left rest 0 all → BitsLeft r all
+pub none_left : (r : Bits) (left rest : List ℕ) (all : List Bool) → r.left ≡ 0 → drop r.bytes.used r.bytes.run.values ≡ left → drop r.bytes.at r.bytes.bytes.now ≡ rest → seek.BitsPending left rest 0 all → BitsLeft r all
 none_left r left rest all many pending here h = record {
   packed = h.packed;
   spelled = (h.runs.0, h.runs.1 ∙ ap (λ (t : List ℕ). t ++ h.runs.0) (sym pending), subst (λ (t : List ℕ). IsStream IsByteRun t h.runs.0) (sym here) h.runs.2);

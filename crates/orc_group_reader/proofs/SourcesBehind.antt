@@ -1,7 +1,6 @@
 -- What a column's reader meets and gives that stands at positions, as a reader of the whole column behind some cells.
 use Rattle.std.proofs.Common.{◌≡◌, ℕ, ◌+◌, ◌-◌, ◌<◌, ◌≤◌, ℤ, pos, Bool, true, false, Option, Some, None, List, [], ◌∷◌, ◌++◌, length, map, take, drop, sum, replicate, refl, sym, ap, ◌∙◌, subst, arith, inl, inr, append_assoc, length-append}
 use Rattle.std.proofs.lemmas.List.{map-append, length-map, take-append-drop}
-use Rattle.std.proofs.lemmas.List.Sums.{sum_by-append}
 use Rattle.std.specs.List.{AllByRecursion}
 use Rattle.std.specs.declared.vec.Vec.{Vec}
 use Rattle.std.specs.declared.alloc.Global.{Global}
@@ -22,23 +21,25 @@ use Rattle.orc_column_reader.specs.Faults.{RunsFail, MarksFail, NumbersFail, Int
 use Rattle.orc_column_reader.specs.Needs.{MarksBegin}
 use Rattle.orc_column_reader.specs.Numbers.{is_run, NumbersFirst}
 use Rattle.orc_column_reader.specs.ReaderFaults.{Pass, IntsMeet, StringsMeet, TextMeets, IndexesMeet, TextsMeet, ScalarMeets, ListsMeet, ValuesMeet}
-use Rattle.orc_column_reader.specs.RunFaults.{Always, IntegersFirst, AreIntegers, IntegersFail, BoolsFail, no_run}
+use Rattle.orc_column_reader.specs.RunFaults.{Always, IntegersFirst, AreIntegersOf, IntegersFail, BoolsFail, no_run}
 use Rattle.orc_column_reader.specs.RunsMet.{NumbersMeet, BytesMeet, BitsMeet, MarksMeet}
-use Rattle.orc_column_reader.specs.Spellings.{size, joined}
-use Rattle.orc_column_reader.specs.Stripe.{Streams, version, has_dictionary, IsDictionary, most_cells}
+use Rattle.orc_column_reader.specs.Spellings.{size, concatenated}
+use Rattle.orc_column_reader.specs.Stripe.{Streams, version, has_dictionary, IsDictionary}
+use Rattle.orc_values.specs.Limits.{most_cells}
 use Rattle.orc_column_reader.specs.ValueFaults.{NotAll, is_index, names_text, PassTogether}
 use Rattle.orc_column_reader.specs.declared.bits.Bits.{Bits}
 use Rattle.orc_column_reader.specs.declared.entry.Entry.{Entry}
 use Rattle.orc_column_reader.specs.declared.column.ValueSource.{ValueSource}
-use Rattle.orc_column_reader.specs.declared.fault.StreamKind.{StreamKind}
-use Rattle.orc_column_reader.specs.declared.fault.StreamKind.TheVariants as stream
-use Rattle.orc_column_reader.specs.declared.fault.StripeFault.{StripeFault}
-use Rattle.orc_column_reader.specs.declared.fault.StripeFault.TheVariants as fault
+use Rattle.orc_directory.specs.declared.fault.StreamKind.{StreamKind}
+use Rattle.orc_directory.specs.declared.fault.StreamKind.TheVariants as stream
+use Rattle.orc_directory.specs.declared.fault.StripeFault.{StripeFault}
+use Rattle.orc_directory.specs.declared.fault.StripeFault.TheVariants as fault
 use Rattle.orc_column_reader.specs.declared.numbers.Numbers.{Numbers}
 use Rattle.orc_column_reader.proofs.FirstLemmas.{begin_lengths}
 use Rattle.orc_column_reader.proofs.StartFaults.{integers_from}
-use Rattle.orc_group_reader.specs.Columns.{HasEntries}
+use Rattle.orc_group_reader.specs.Columns.{HasDictionaryEntries}
 use Rattle.orc_group_reader.proofs.ReadersBehind.{NumbersBehind, BytesBehind, BitsBehind}
+use Rattle.orc_values.proofs.Lists.{sum_append, pos_same}
 
 -- ---- faults of runs
 
@@ -105,16 +106,6 @@ ints_met : (fits : ℤ → Bool) (x : Streams) (k : ℕ) (r : Numbers) (c m : �
 ints_met fits x k r c m all n f b e (inl h) = inl (numbers_fail stream.Data (version x) Signed (x.stream 1) k r c m all n f b e h)
 ints_met fits x k r c m all n f b e (inr h) = inr (h.0 ∙ ap (λ (i : ℕ). fault.OutOfRange i) e, not_all fits (version x) Signed (x.stream 1) k r b h.1)
 
--- lengths that are passed, and those that come then
-sum_both : (a b : List ℕ) → sum (a ++ b) ≡ sum a + sum b
-sum_both a b = sum_by-append (λ (n : ℕ). n) a b
-
-pos_same : (a b : List ℕ) → map pos a ≡ map pos b → a ≡ b
-pos_same [] [] e = refl
-pos_same [] (y ∷ b) e = absurd cc
-pos_same (x ∷ a) [] e = absurd cc
-pos_same (x ∷ a) (y ∷ b) e = let head : x ≡ y = cc in let rest : map pos a ≡ map pos b = cc in (λ i. head i ∷ pos_same a b rest i)
-
 -- numbers that pass a sum behind lengths pass it and these together
 pass_behind : (v : Rle) (bytes : List ℕ) (k : ℕ) (r : Numbers) (lengths : List ℕ) (most all : ℕ) → (b : NumbersBehind v Unsigned bytes k r) → b.passed ≡ map pos lengths → all ≤ sum lengths + most → Pass (NumbersFirst r) most
     → PassTogether (IntegersFirst (integers_from v Unsigned bytes)) all
@@ -127,7 +118,7 @@ pass_behind v bytes k r lengths most all b are le h = begin_lengths v bytes all 
       let back : h.0 ≡ map pos (drop count whole) = back_is lengths whole h.0 (sym e ∙ ap (λ (t : List ℤ). t ++ h.0) are) in
       let first : take count whole ≡ lengths = pos_same (take count whole) lengths front in
       let more : most < sum (drop count whole) = h.2 (drop count whole) back in
-      omega (arith, more, le, ap sum first, sum_both (take count whole) (drop count whole), ap sum (take-append-drop count whole)),
+      omega (arith, more, le, ap sum first, sum_append (take count whole) (drop count whole), ap sum (take-append-drop count whole)),
 )
   where
     front_is : (lengths whole : List ℕ) (more : List ℤ) → map pos whole ≡ map pos lengths ++ more → map pos (take (length lengths) whole) ≡ map pos lengths
@@ -145,28 +136,28 @@ pub record GroupsBehind (x : Streams) (k : ℕ) (source : ValueSource) : Type 0 
   pub numbers : NumbersBehind (version x) Unsigned (x.stream 2) k source.numbers
   pub groups : List (List ℕ)
   pub sizes : numbers.passed ≡ map size groups
-  pub content : x.stream 1 ≡ joined groups ++ source.octets.rest.now
+  pub content : x.stream 1 ≡ concatenated groups ++ source.octets.rest.now
 
 sizes_are : (groups : List (List ℕ)) → map size groups ≡ map pos (map length groups)
 sizes_are [] = refl
 sizes_are (g ∷ gs) = ap (λ (t : List ℤ). size g ∷ t) (sizes_are gs)
 
-sum_joined : (groups : List (List ℕ)) → sum (map length groups) ≡ length (joined groups)
+sum_joined : (groups : List (List ℕ)) → sum (map length groups) ≡ length (concatenated groups)
 sum_joined [] = refl
-sum_joined (g ∷ gs) = omega (arith, sum_both (length g ∷ []) (map length gs), sum_joined gs, length-append g (joined gs), sum_one (length g))
+sum_joined (g ∷ gs) = omega (arith, sum_append (length g ∷ []) (map length gs), sum_joined gs, length-append g (concatenated gs), sum_one (length g))
   where
     sum_one : (n : ℕ) → sum (n ∷ []) ≡ n
-    sum_one n = omega (arith, sum_both (n ∷ []) [])
+    sum_one n = omega (arith, sum_append (n ∷ []) [])
 
-joined_both : (a b : List (List ℕ)) → joined (a ++ b) ≡ joined a ++ joined b
+joined_both : (a b : List (List ℕ)) → concatenated (a ++ b) ≡ concatenated a ++ concatenated b
 joined_both [] b = refl
-joined_both (g ∷ a) b = ap (λ (t : List ℕ). g ++ t) (joined_both a b) ∙ sym (append_assoc g (joined a) (joined b))
+joined_both (g ∷ a) b = ap (λ (t : List ℕ). g ++ t) (joined_both a b) ∙ sym (append_assoc g (concatenated a) (concatenated b))
 
 groups_met : (x : Streams) (k : ℕ) (source : ValueSource) (m : ℕ) (all : Bool) (n : ℕ) (f : StripeFault) → GroupsBehind x k source → source.column ≡ m → StringsMeet stream.Data source.numbers source.octets all n source.column f
     → StringsFail stream.Data (lengths_of x) all (k + n) (x.stream 1) m f
 groups_met x k source m all n f b e (inl h) = inl (numbers_fail stream.Length (version x) Unsigned (x.stream 2) k source.numbers source.column m all n f b.numbers e h)
 groups_met x k source m all n f b e (inr (is, inl p)) =
-    let long : length (x.stream 1) ≡ length (joined b.groups) + length source.octets.rest.now = omega (arith, ap length b.content, length-append (joined b.groups) source.octets.rest.now) in
+    let long : length (x.stream 1) ≡ length (concatenated b.groups) + length source.octets.rest.now = omega (arith, ap length b.content, length-append (concatenated b.groups) source.octets.rest.now) in
     inr (
       is ∙ ap (λ (i : ℕ). fault.LengthSum i stream.Data) e,
       inl (pass_behind (version x) (x.stream 2) k source.numbers (map length b.groups) (length source.octets.rest.now) (length (x.stream 1)) b.numbers (b.sizes ∙ sizes_are b.groups)
@@ -176,15 +167,15 @@ groups_met x k source m all n f b e (inr (is, inr p)) =
     let lengths : List ℕ = map length b.groups ++ p.0 in
     let spelled = b.numbers.left (map pos p.0) p.1 in
     let same : b.numbers.passed ++ map pos p.0 ≡ map pos lengths = ap (λ (t : List ℤ). t ++ map pos p.0) (b.sizes ∙ sizes_are b.groups) ∙ sym (map-append pos (map length b.groups) p.0) in
-    let few : sum lengths < length (x.stream 1) = omega (arith, p.2, sum_both (map length b.groups) p.0, sum_joined b.groups, ap length b.content, length-append (joined b.groups) source.octets.rest.now) in
-    inr (is ∙ ap (λ (i : ℕ). fault.LengthSum i stream.Data) e, inr (lengths, subst (λ (t : List ℤ). AreIntegers (lengths_of x) t) same spelled, few))
+    let few : sum lengths < length (x.stream 1) = omega (arith, p.2, sum_append (map length b.groups) p.0, sum_joined b.groups, ap length b.content, length-append (concatenated b.groups) source.octets.rest.now) in
+    inr (is ∙ ap (λ (i : ℕ). fault.LengthSum i stream.Data) e, inr (lengths, subst (λ (t : List ℤ). AreIntegersOf (lengths_of x) t) same spelled, few))
 
 text_met : (x : Streams) (k : ℕ) (source : ValueSource) (m : ℕ) (all : Bool) (n : ℕ) (f : StripeFault) → GroupsBehind x k source → source.column ≡ m → TextMeets source.numbers source.octets all n source.column f → TextsFail false x all (k + n) m f
 text_met x k source m all n f b e (inl h) = inl (groups_met x k source m all n f b e h)
 text_met x k source m all n f b e (inr (is, h)) =
     let first = subst (λ (t : List ℤ). IntegersFirst (lengths_of x) t) (ap (λ (t : List ℤ). t ++ map size h.0) b.sizes ∙ sym (map-append size b.groups h.0)) (b.numbers.first (map size h.0) h.2) in
-    let parts : x.stream 1 ≡ joined (b.groups ++ h.0) ++ h.1 =
-    b.content ∙ ap (λ (t : List ℕ). joined b.groups ++ t) h.3 ∙ sym (append_assoc (joined b.groups) (joined h.0) h.1) ∙ ap (λ (t : List ℕ). t ++ h.1) (sym (joined_both b.groups h.0)) in
+    let parts : x.stream 1 ≡ concatenated (b.groups ++ h.0) ++ h.1 =
+    b.content ∙ ap (λ (t : List ℕ). concatenated b.groups ++ t) h.3 ∙ sym (append_assoc (concatenated b.groups) (concatenated h.0) h.1) ∙ ap (λ (t : List ℕ). t ++ h.1) (sym (joined_both b.groups h.0)) in
     inr (is ∙ ap (λ (i : ℕ). fault.NotUtf8 i stream.Data) e, (b.groups ++ h.0, h.1, first, parts, λ every. h.4 (all_back _ b.groups h.0 every)))
 
 words_met : (x : Streams) (entries : List (List ℕ)) (k : ℕ) (r : Numbers) (c m : ℕ) (all : Bool) (n : ℕ) (f : StripeFault) → IsDictionary x entries → NumbersBehind (version x) Unsigned (x.stream 1) k r → c ≡ m → IndexesMeet entries r all n c f
@@ -196,15 +187,15 @@ words_met x entries k r c m all n f d b e (inr (inr h)) =
     inr (inr (h.0 ∙ ap (λ (i : ℕ). fault.NotUtf8 i stream.DictionaryData) e, (entries, d, not_all (names_text entries) (version x) Unsigned (x.stream 1) k r b h.1)))
 
 abbrev pub TextsBehind : Bool → Streams → ℕ → ValueSource → Type 0
-TextsBehind true x k source = HasEntries true x source.entries × NumbersBehind (version x) Unsigned (x.stream 1) k source.numbers
-TextsBehind false x k source = HasEntries false x source.entries × GroupsBehind x k source
+TextsBehind true x k source = HasDictionaryEntries true x source.entries × NumbersBehind (version x) Unsigned (x.stream 1) k source.numbers
+TextsBehind false x k source = HasDictionaryEntries false x source.entries × GroupsBehind x k source
 
 texts_met : (d : Bool) (x : Streams) (entries : Option (Vec Entry Global)) (k : ℕ) (source : ValueSource) (m : ℕ) (all : Bool) (n : ℕ) (f : StripeFault) → source.entries ≡ entries → TextsBehind d x k source → source.column ≡ m → TextsMeet entries source all n f
     → TextsFail d x all (k + n) m f
-texts_met true x None k source m all n f is b e h = absurd (subst (λ (es : Option (Vec Entry Global)). HasEntries true x es) is b.0)
-texts_met true x (Some entries) k source m all n f is b e h = words_met x (map entry_bytes entries.items) k source.numbers source.column m all n f (subst (λ (es : Option (Vec Entry Global)). HasEntries true x es) is b.0) b.1 e h
+texts_met true x None k source m all n f is b e h = absurd (subst (λ (es : Option (Vec Entry Global)). HasDictionaryEntries true x es) is b.0)
+texts_met true x (Some entries) k source m all n f is b e h = words_met x (map entry_bytes entries.items) k source.numbers source.column m all n f (subst (λ (es : Option (Vec Entry Global)). HasDictionaryEntries true x es) is b.0) b.1 e h
 texts_met false x None k source m all n f is b e h = text_met x k source m all n f b.1 e h
-texts_met false x (Some entries) k source m all n f is b e h = absurd (subst (λ (es : Option (Vec Entry Global)). HasEntries false x es) is b.0)
+texts_met false x (Some entries) k source m all n f is b e h = absurd (subst (λ (es : Option (Vec Entry Global)). HasDictionaryEntries false x es) is b.0)
 
 abbrev pub ScalarBehind : Scalar → Streams → ℕ → ValueSource → Type 0
 ScalarBehind kind.Boolean x k source = BitsBehind (x.stream 1) k source.bits

@@ -19,10 +19,10 @@ use Rattle.orc_group_reader.specs.Streams.{Enters, NeverEnters}
 use Rattle.orc_group_reader.specs.declared.entered.Entered.TheVariants as entered
 
 -- two numbers that are a position
-same_two : (o s p t : ℕ) → o ∷ s ∷ [] ≡ p ∷ t ∷ [] → (o ≡ p) × (s ≡ t)
+pub same_two : (o s p t : ℕ) → o ∷ s ∷ [] ≡ p ∷ t ∷ [] → (o ≡ p) × (s ≡ t)
 same_two o s p t e = (cc, cc)
 
-same_three : (o s b p t c : ℕ) → o ∷ s ∷ b ∷ [] ≡ p ∷ t ∷ c ∷ [] → (o ≡ p) × (s ≡ t) × (b ≡ c)
+pub same_three : (o s b p t c : ℕ) → o ∷ s ∷ b ∷ [] ≡ p ∷ t ∷ c ∷ [] → (o ≡ p) × (s ≡ t) × (b ≡ c)
 same_three o s b p t c e = (cc, cc, cc)
 
 -- a position of a stream of runs, by the numbers that it was made of

@@ -2,7 +2,6 @@
 use Rattle.std.proofs.Common.{◌≡◌, ℕ, suc, ◌+◌, ◌-◌, ltb, ℤ, pos, Bool, true, false, Some, List, [], ◌∷◌, ◌++◌, length, map, take, drop, sum, refl, sym, ap, ◌∙◌, subst, arith, inl, inr, ◌⊎◌, slice_get, length-append, length-drop}
 use Rattle.std.proofs.lemmas.Bool.{lt-ltb, le-ltb}
 use Rattle.std.proofs.lemmas.List.{map-append, length-map, length-take-le}
-use Rattle.std.proofs.lemmas.List.Sums.{sum_by-append}
 use Rattle.std.proofs.lemmas.Option.{slice_get_within}
 use Rattle.std.specs.List.{flat_map}
 use Rattle.orc_values.specs.Cells.{Cell, null, leaf, list, struct, pairs, is_value, parts, pairs_in, keys_in, values_in, values}
@@ -20,10 +19,11 @@ use Rattle.orc_column_reader.specs.RunFaults.{Needed, IntegersFirst}
 use Rattle.orc_column_reader.specs.Stripe.{Streams}
 use Rattle.orc_column_reader.specs.declared.column.ColumnReader.{ColumnReader}
 use Rattle.orc_column_reader.specs.declared.column.ValueSource.{ValueSource}
-use Rattle.orc_column_reader.specs.declared.fault.StripeFault.{StripeFault}
+use Rattle.orc_directory.specs.declared.fault.StripeFault.{StripeFault}
 use Rattle.orc_column_reader.proofs.ByNumber.{are_lists, joined_parts, are_records, FieldsFit, split}
 use Rattle.orc_group_reader.proofs.ByColumn.{get_take, get_drop}
 use Rattle.orc_group_reader.proofs.SourcesBehind.{MarksBehind, marks_met, marks_first, SizesBehind, list_lengths, map_lengths, SourceBehind, values_met}
+use Rattle.orc_values.proofs.Lists.{sum_more, sum_append, trues_append}
 
 -- a column's own reader behind some cells, by the column's number
 pub record ColumnBehind (s : Shape) (x : Streams) (m : ℕ) (cs : List Cell) (r : ColumnReader) : Type 0 where
@@ -53,11 +53,6 @@ needed_behind : (all : Bool) (known n k : ℕ) → Needed all known n → Needed
 needed_behind true known n k h = omega (arith, h)
 needed_behind false known n k h = omega (arith, h)
 
-trues_both : (a b : List Bool) → trues (a ++ b) ≡ trues a + trues b
-trues_both [] b = omega arith
-trues_both (true ∷ a) b = omega (arith, trues_both a b)
-trues_both (false ∷ a) b = trues_both a b
-
 trues_values : (cs : List Cell) → trues (map is_value cs) ≡ length (values cs)
 trues_values [] = refl
 trues_values (null ∷ cs) = trues_values cs
@@ -76,11 +71,8 @@ values_needed s x m cs own all n v b h =
       come_first = marks_first (x.stream 0) own.present (map is_value cs) h.marks marks b.begin h.come_first;
       known = let count : length cs + length h.marks ≡ length (map is_value cs ++ h.marks) = omega (arith, length-append (map is_value cs) h.marks, long) in
           subst (λ (k : ℕ). Needed all k (length cs + n)) count (needed_behind all (length h.marks) n (length cs) h.known);
-      counted = omega (arith, trues_both (map is_value cs) h.marks, trues_values cs, h.counted);
+      counted = omega (arith, trues_append (map is_value cs) h.marks, trues_values cs, h.counted);
     }
-
-sum_both : (a b : List ℕ) → sum (a ++ b) ≡ sum a + sum b
-sum_both a b = sum_by-append (λ (n : ℕ). n) a b
 
 elements_behind : (x : Streams) (lengths : List ℕ) (source : ValueSource) (all : Bool) (v e k total : ℕ) → SizesBehind x lengths source → length lengths ≡ k → sum lengths ≡ total → ElementsNeeded all v (NumbersFirst source.numbers) e
     → ElementsNeeded all (k + v) (IntegersFirst (lengths_of x)) (total + e)
@@ -90,11 +82,8 @@ elements_behind x lengths source all v e k total b long together h = record {
       subst (λ (t : List ℤ). IntegersFirst (lengths_of x) t) same (b.numbers.first (map pos h.lengths) h.come_first);
   known = let count : k + length h.lengths ≡ length (lengths ++ h.lengths) = omega (arith, length-append lengths h.lengths, long) in
       subst (λ (i : ℕ). Needed all i (k + v)) count (needed_behind all (length h.lengths) v k h.known);
-  counted = omega (arith, sum_both lengths h.lengths, together, h.counted);
+  counted = omega (arith, sum_append lengths h.lengths, together, h.counted);
 }
-
-sum_more : (n : ℕ) (ns : List ℕ) → sum (n ∷ ns) ≡ n + sum ns
-sum_more n ns = let one : sum (n ∷ []) ≡ n = omega (arith, sum_both (n ∷ []) []) in omega (arith, sum_both (n ∷ []) ns, one)
 
 sum_parts : (vs : List Cell) → sum (list_lengths vs) ≡ length (flat_map parts vs)
 sum_parts [] = refl

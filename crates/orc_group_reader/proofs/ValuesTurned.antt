@@ -17,18 +17,19 @@ use Rattle.orc_column_reader.specs.Bits.{BitsLeft}
 use Rattle.orc_column_reader.specs.Bytes.{BytesLeft}
 use Rattle.orc_column_reader.specs.Columns.{IsBool, IsByte, IsInt, IsDate, IsText, IsBinary, IsEntry, entry_bytes, StringsLeft, TextsLeft, ScalarLeft}
 use Rattle.orc_column_reader.specs.Numbers.{NumbersLeft, AreNumbers}
-use Rattle.orc_column_reader.specs.Spellings.{Standing, Sized, joined, size}
-use Rattle.orc_column_reader.specs.Stripe.{Streams, version, has_dictionary, Is, SpellsTexts, SpellsScalar, SpellsValues, most_cells}
+use Rattle.orc_column_reader.specs.Spellings.{Standing, Sized, concatenated, size}
+use Rattle.orc_column_reader.specs.Stripe.{Streams, version, has_dictionary, Is, SpellsTexts, SpellsScalar, SpellsValues}
+use Rattle.orc_values.specs.Limits.{most_cells}
 use Rattle.orc_column_reader.specs.declared.entry.Entry.{Entry}
 use Rattle.orc_column_reader.specs.declared.column.ValueSource.{ValueSource}
 use Rattle.orc_column_reader.specs.declared.bits.Bits.{Bits}
 use Rattle.orc_column_reader.specs.declared.bytes.RunLengthBytes.{RunLengthBytes}
 use Rattle.orc_column_reader.specs.declared.numbers.Numbers.{Numbers}
 use Rattle.orc_column_reader.proofs.OneRows.{one_dictionary}
-use Rattle.orc_row_index.specs.Positions.{octets_in, octets}
+use Rattle.orc_row_groups.specs.Counts.{octets_in, octets}
 use Rattle.orc_row_index.specs.RunStreams.{bit_runs, byte_runs, number_runs, scalar_runs, value_runs, text_runs, scalar_octets, value_bytes, text_octets}
-use Rattle.orc_row_index.proofs.ColumnPlaces.{stand_long}
-use Rattle.orc_group_reader.specs.Columns.{IsSource, IsCut, HasEntries, ScalarEntries, EntriesOf, OwnValuesLeft}
+use Rattle.orc_row_index.proofs.ColumnPlaces.{stand_long, text_long, binary_long}
+use Rattle.orc_group_reader.specs.Columns.{IsSource, IsWithoutFront, HasDictionaryEntries, ScalarEntries, EntriesOf, EnteredValuesLeft}
 use Rattle.orc_group_reader.specs.Streams.{LeftFrom}
 use Rattle.orc_group_reader.specs.declared.entered.Entered.{Entered}
 use Rattle.orc_group_reader.specs.declared.entered.Entered.TheVariants as entered
@@ -82,16 +83,16 @@ numbers_turned stands x sign stream b a own source rest left is h =
 
 -- the groups of the cells in front have as many bytes as the cells
 groups_front : (stands : List ℕ → Cell → Type 0) → ((t : List ℕ) (c : Cell) → stands t c → octets_in c ≡ length t) → (groups : List (List ℕ)) (b a : List Cell) → AllZip stands groups (b ++ a)
-    → length (joined (take (length b) groups)) ≡ octets b
+    → length (concatenated (take (length b) groups)) ≡ octets b
 groups_front stands long groups [] a h = refl
 groups_front stands long [] (c ∷ b) a h = absurd h
 groups_front stands long (g ∷ groups) (c ∷ b) a h =
-    omega (arith, length-append g (joined (take (length b) groups)), long g c h.0, groups_front stands long groups b a h.1, sum_by-cons octets_in c b)
+    omega (arith, length-append g (concatenated (take (length b) groups)), long g c h.0, groups_front stands long groups b a h.1, sum_by-cons octets_in c b)
 
-joined_cut : (n : ℕ) (groups : List (List ℕ)) → joined groups ≡ joined (take n groups) ++ joined (drop n groups)
+joined_cut : (n : ℕ) (groups : List (List ℕ)) → concatenated groups ≡ concatenated (take n groups) ++ concatenated (drop n groups)
 joined_cut zero groups = refl
 joined_cut (suc n) [] = refl
-joined_cut (suc n) (g ∷ groups) = ap (λ (t : List ℕ). g ++ t) (joined_cut n groups) ∙ sym (append_assoc g (joined (take n groups)) (joined (drop n groups)))
+joined_cut (suc n) (g ∷ groups) = ap (λ (t : List ℕ). g ++ t) (joined_cut n groups) ∙ sym (append_assoc g (concatenated (take n groups)) (concatenated (drop n groups)))
 
 drop_exact : (a b : List ℕ) → drop (length a) (a ++ b) ≡ b
 drop_exact [] b = refl
@@ -109,20 +110,14 @@ groups_turned : (stands : List ℕ → Cell → Type 0) → ((t : List ℕ) (c :
 groups_turned stands long x content b a own source rest left is from h =
     let n = length b in
     let sizes = subst (NumbersLeft source.numbers) (drop-map size n h.0) (numbers_left x Unsigned (x.stream 2) n own source rest (map size h.0) left is h.2.0) in
-    let front : length (joined (take n h.0)) ≡ octets b = groups_front stands long h.0 b a h.1 in
-    let back : joined (drop n h.0) ≡ source.octets.rest.now =
-    sym (drop_exact (joined (take n h.0)) (joined (drop n h.0))) ∙ ap (drop (length (joined (take n h.0)))) (sym (joined_cut n h.0)) ∙ ap (λ (k : ℕ). drop k (joined h.0)) front ∙ ap (drop (octets b)) h.2.1
+    let front : length (concatenated (take n h.0)) ≡ octets b = groups_front stands long h.0 b a h.1 in
+    let back : concatenated (drop n h.0) ≡ source.octets.rest.now =
+    sym (drop_exact (concatenated (take n h.0)) (concatenated (drop n h.0))) ∙ ap (drop (length (concatenated (take n h.0)))) (sym (joined_cut n h.0)) ∙ ap (λ (k : ℕ). drop k (concatenated h.0)) front ∙ ap (drop (octets b)) h.2.1
     ∙ sym from ∙ sym (rest_of own rest source is) in
     (drop n h.0, stand_drop stands h.0 b a h.1, (sizes, back))
 
-text_long : (t : List ℕ) (c : Cell) → IsText t c → octets_in c ≡ length t
-text_long t c h = ap octets_in h.1
-
-binary_long : (t : List ℕ) (c : Cell) → IsBinary t c → octets_in c ≡ length t
-binary_long t c h = ap octets_in h.1
-
 texts_turned : (d : Bool) (x : Streams) (b a : List Cell) (own : Entered) (source : ValueSource) (rest : List ℕ) (entries : Option (Vec Entry Global)) → LeftFrom (text_runs d x) (length b) own → IsSource own rest source
-    → HasEntries d x entries → IsCut (text_octets d x) (octets b) rest → SpellsTexts x d (b ++ a) → TextsLeft entries source a
+    → HasDictionaryEntries d x entries → IsWithoutFront (text_octets d x) (octets b) rest → SpellsTexts x d (b ++ a) → TextsLeft entries source a
 texts_turned true x b a own source rest (Some entries) left is has from h =
     let same = one_dictionary x h.0 (map entry_bytes entries.items) h.1 has in
     numbers_turned (IsEntry (map entry_bytes entries.items)) x Unsigned (x.stream 1) b a own source rest left is
@@ -134,7 +129,7 @@ texts_turned false x b a own source rest None left is has from h = groups_turned
 -- ---- by the kind of a column
 
 scalar_turned : (k : Scalar) (x : Streams) (b a : List Cell) (own : Entered) (source : ValueSource) (rest : List ℕ) → LeftFrom (scalar_runs k x) (length b) own → IsSource own rest source → ScalarEntries k x source.entries
-    → IsCut (scalar_octets k x) (octets b) rest → SpellsScalar k x (b ++ a) → ScalarLeft k source a
+    → IsWithoutFront (scalar_octets k x) (octets b) rest → SpellsScalar k x (b ++ a) → ScalarLeft k source a
 scalar_turned kind.Boolean x b a own source rest left is has from h = bits_turned (x.stream 1) b a own source rest left is h
 scalar_turned kind.Byte x b a own source rest left is has from h = bytes_turned (x.stream 1) b a own source rest left is h
 scalar_turned kind.Short x b a own source rest left is has from h = numbers_turned (IsInt kind.Short) x Signed (x.stream 1) b a own source rest left is h
@@ -145,7 +140,7 @@ scalar_turned kind.Binary x b a own source rest left is has from h = groups_turn
 scalar_turned kind.String x b a own source rest left is has from h = texts_turned (has_dictionary x) x b a own source rest source.entries left is has from h
 
 pub values_turned : (s : Shape) (x : Streams) (b a : List Cell) (own : Entered) (source : ValueSource) (rest : List ℕ) → LeftFrom (value_runs s x) (length b) own → IsSource own rest source → EntriesOf s x source.entries
-    → IsCut (value_bytes s x) (octets b) rest → source.room ≡ most_cells → SpellsValues s x (b ++ a) → OwnValuesLeft s source a
+    → IsWithoutFront (value_bytes s x) (octets b) rest → source.room ≡ most_cells → SpellsValues s x (b ++ a) → EnteredValuesLeft s source a
 values_turned (scalar k o) x b a own source rest left is has from room h = scalar_turned k x b a own source rest left is has from h
 values_turned (list_of s o) x b a own source rest left is has from room h = (
   subst (NumbersLeft source.numbers) (drop_mapped (λ v. size (parts v)) b a) (numbers_left x Unsigned (x.stream 2) (length b) own source rest (map (λ v. size (parts v)) (b ++ a)) left is h),

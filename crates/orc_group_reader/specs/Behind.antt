@@ -10,9 +10,10 @@ use Rattle.orc_column_reader.specs.Faults.{lengths_of}
 use Rattle.orc_column_reader.specs.Needs.{MarksBegin}
 use Rattle.orc_column_reader.specs.Numbers.{is_run}
 use Rattle.orc_column_reader.specs.RunFaults.{IntegersFirst}
-use Rattle.orc_column_reader.specs.Spellings.{size, joined}
+use Rattle.orc_column_reader.specs.Spellings.{size, concatenated}
 use Rattle.orc_column_reader.specs.Stripe.{Streams, has_dictionary, in_present, in_data}
-use Rattle.orc_row_index.specs.Positions.{RunPosition, BitsPosition, octets, octets_position}
+use Rattle.orc_row_index.specs.Positions.{RunPosition, BitsPosition, octets_position}
+use Rattle.orc_row_groups.specs.Counts.{octets}
 use Rattle.orc_row_index.specs.RunStreams.{RunStream, no_stream, bit_runs, byte_runs, number_runs, present_runs, value_runs, value_bytes}
 
 -- The position leads to value n, whatever comes then: its offset is that of a run's start, or the stream's length, and
@@ -45,9 +46,9 @@ abbrev pub StringsBegin : Streams → List Cell → ℕ → Type 0
 StringsBegin x vs count =
     (strings : List (List ℕ)) × (rest : List ℕ)
     × (length strings ≡ length vs)
-    × (length (joined strings) ≡ count)
+    × (length (concatenated strings) ≡ count)
     × IntegersFirst (lengths_of x) (map size strings)
-    × (in_data x ≡ joined strings ++ rest)
+    × (in_data x ≡ concatenated strings ++ rest)
 
 -- strings in a dictionary have no bytes of their own to begin in
 abbrev pub TextsBegin : Bool → Streams → List Cell → ℕ → Type 0

@@ -9,12 +9,14 @@ use Rattle.orc_values.specs.declared.kind.Scalar.TheVariants as kind
 use Rattle.orc_column_reader.specs.Columns.{MarksLeft, ScalarLeft, entry_bytes}
 use Rattle.orc_column_reader.specs.Numbers.{NumbersLeft}
 use Rattle.orc_column_reader.specs.Spellings.{size}
-use Rattle.orc_column_reader.specs.Stripe.{Streams, IsColumn, IsDictionary, SpellsValues, has_dictionary, most_cells, in_present, in_length, in_dictionary}
+use Rattle.orc_column_reader.specs.Stripe.{Streams, IsColumn, IsDictionary, SpellsValues, has_dictionary, in_present, in_length, in_dictionary}
+use Rattle.orc_values.specs.Limits.{most_cells}
 use Rattle.orc_column_reader.specs.declared.bits.Bits.{Bits}
 use Rattle.orc_column_reader.specs.declared.column.ColumnReader.{ColumnReader}
 use Rattle.orc_column_reader.specs.declared.entry.Entry.{Entry}
 use Rattle.orc_column_reader.specs.declared.column.ValueSource.{ValueSource}
-use Rattle.orc_row_index.specs.Positions.{AreReadPositions, IsPosition, reader, octets}
+use Rattle.orc_row_index.specs.Positions.{AreReadPositions, IsPosition, reader}
+use Rattle.orc_row_groups.specs.Counts.{octets}
 use Rattle.orc_row_index.specs.Walking.{HasOctets}
 use Rattle.orc_row_index.specs.RunStreams.{bit_runs, present_runs, value_runs, value_bytes}
 use Rattle.orc_group_reader.specs.Entering.{AgreeFrom}
@@ -43,20 +45,20 @@ IsSource (entered.Bytes bytes) rest source = (source.bytes ≡ bytes) × (source
 IsSource (entered.Numbers numbers) rest source = (source.numbers ≡ numbers) × (source.octets.rest.now ≡ rest)
 
 -- bytes as they are without so many in front, where a column has such
-abbrev pub IsCut : Option (List ℕ) → ℕ → List ℕ → Type 0
-IsCut None n rest = Unit {0}
-IsCut (Some content) n rest = rest ≡ drop n content
+abbrev pub IsWithoutFront : Option (List ℕ) → ℕ → List ℕ → Type 0
+IsWithoutFront None n rest = Unit {0}
+IsWithoutFront (Some content) n rest = rest ≡ drop n content
 
 -- the entries of a dictionary
-abbrev pub HasEntries : Bool → Streams → Option (Vec Entry Global) → Type 0
-HasEntries true x (Some entries) = IsDictionary x (map entry_bytes entries.items)
-HasEntries true x None = ⊥
-HasEntries false x (Some entries) = ⊥
-HasEntries false x None = Unit {0}
+abbrev pub HasDictionaryEntries : Bool → Streams → Option (Vec Entry Global) → Type 0
+HasDictionaryEntries true x (Some entries) = IsDictionary x (map entry_bytes entries.items)
+HasDictionaryEntries true x None = ⊥
+HasDictionaryEntries false x (Some entries) = ⊥
+HasDictionaryEntries false x None = Unit {0}
 
 -- a reader has a dictionary's entries just where the column is of strings in one
 abbrev pub ScalarEntries : Scalar → Streams → Option (Vec Entry Global) → Type 0
-ScalarEntries kind.String x entries = HasEntries (has_dictionary x) x entries
+ScalarEntries kind.String x entries = HasDictionaryEntries (has_dictionary x) x entries
 ScalarEntries _ x entries = Unit {0}
 
 -- those of a column's, where it has one
@@ -98,15 +100,15 @@ pub record OwnTurns (s : Shape) (x y : Streams) (before after : List Cell) (last
 
 -- what is left of the values of a column's own streams: of lists their lengths, of maps how many pairs they have,
 -- of structs nothing
-abbrev pub OwnValuesLeft : Shape → ValueSource → List Cell → Type 0
-OwnValuesLeft (scalar k o) source vs = ScalarLeft k source vs
-OwnValuesLeft (list_of s o) source vs =
+abbrev pub EnteredValuesLeft : Shape → ValueSource → List Cell → Type 0
+EnteredValuesLeft (scalar k o) source vs = ScalarLeft k source vs
+EnteredValuesLeft (list_of s o) source vs =
     NumbersLeft source.numbers (map (λ v. size (parts v)) vs) × (source.room ≡ most_cells)
-OwnValuesLeft (map_of k v o) source vs =
+EnteredValuesLeft (map_of k v o) source vs =
     NumbersLeft source.numbers (map (λ m. size (pairs_in m)) vs) × (source.room ≡ most_cells)
-OwnValuesLeft (struct_of fs o) source vs = Unit {0}
+EnteredValuesLeft (struct_of fs o) source vs = Unit {0}
 
 -- what a column's own reader has still to give
 pub record ColumnIsLeft (s : Shape) (reader : ColumnReader) (column : List Cell) : Type 0 where
   pub marks : MarksLeft reader.present (map is_value column)
-  pub spelled : OwnValuesLeft s reader.source (values column)
+  pub spelled : EnteredValuesLeft s reader.source (values column)

@@ -7,7 +7,8 @@ use Rattle.orc_rle.specs.declared.sign.Sign.{Sign}
 use Rattle.orc_values.specs.Shapes.{Shape, width, shape_at}
 use Rattle.orc_wire.specs.declared.row_index.RowIndexEntry.{RowIndexEntry}
 use Rattle.orc_column_reader.specs.Numbers.{is_run}
-use Rattle.orc_column_reader.specs.Stripe.{Streams, most_cells, in_present}
+use Rattle.orc_column_reader.specs.Stripe.{Streams, in_present}
+use Rattle.orc_values.specs.Limits.{most_cells}
 use Rattle.orc_column_reader.specs.declared.bits.Bits.{Bits}
 use Rattle.orc_column_reader.specs.declared.bytes.RunLengthBytes.{RunLengthBytes}
 use Rattle.orc_column_reader.specs.declared.column.ColumnReader.{ColumnReader}

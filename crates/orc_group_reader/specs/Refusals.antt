@@ -9,23 +9,23 @@ use Rattle.orc_column_reader.specs.Faults.{DictionaryFails}
 use Rattle.orc_column_reader.specs.Numbers.{is_run}
 use Rattle.orc_column_reader.specs.RunFaults.{no_run}
 use Rattle.orc_column_reader.specs.Stripe.{Streams, has_dictionary, in_present}
-use Rattle.orc_column_reader.specs.declared.fault.Spot.TheVariants as spot
-use Rattle.orc_column_reader.specs.declared.fault.StreamKind.{StreamKind}
-use Rattle.orc_column_reader.specs.declared.fault.StreamKind.TheVariants as stream
-use Rattle.orc_column_reader.specs.declared.fault.StripeFault.{StripeFault}
-use Rattle.orc_column_reader.specs.declared.fault.StripeFault.TheVariants as fault
+use Rattle.orc_directory.specs.declared.fault.Spot.TheVariants as spot
+use Rattle.orc_directory.specs.declared.fault.StreamKind.{StreamKind}
+use Rattle.orc_directory.specs.declared.fault.StreamKind.TheVariants as stream
+use Rattle.orc_directory.specs.declared.fault.StripeFault.{StripeFault}
+use Rattle.orc_directory.specs.declared.fault.StripeFault.TheVariants as fault
 use Rattle.orc_row_index.specs.Positions.{octets_size, position_size}
 use Rattle.orc_row_index.specs.RunStreams.{RunStream, no_stream, bit_runs, byte_runs, number_runs, present_runs, value_runs, value_bytes, kind_of_values}
 
 -- the numbers are no position of the stream, or bytes that are no run are met on the way; where there are not
 -- as many numbers as a position has, nothing is said
-abbrev pub StreamFails : RunStream → List ℕ → RunFault → Type 0
-StreamFails no_stream positions cause = positions ≡ [] → ⊥
-StreamFails (bit_runs b) positions cause =
+abbrev pub EnteredStreamFails : RunStream → List ℕ → RunFault → Type 0
+EnteredStreamFails no_stream positions cause = positions ≡ [] → ⊥
+EnteredStreamFails (bit_runs b) positions cause =
     (offset skip bits : ℕ) → positions ≡ offset ∷ skip ∷ bits ∷ [] → BitSeekFails b offset skip bits cause
-StreamFails (byte_runs b) positions cause =
+EnteredStreamFails (byte_runs b) positions cause =
     (offset skip : ℕ) → positions ≡ offset ∷ skip ∷ [] → SeekFails IsByteRun NoByteRun b offset skip cause
-StreamFails (number_runs v s b) positions cause =
+EnteredStreamFails (number_runs v s b) positions cause =
     (offset skip : ℕ) → positions ≡ offset ∷ skip ∷ [] → SeekFails (is_run v s) (no_run v s) b offset skip cause
 
 -- bytes as they are end before the position
@@ -48,14 +48,14 @@ IsEnteringFault c k (run.TooFew place) f = f ≡ fault.Run c k (run.TooFew place
 IsEnteringFault c k (run.TooMany place) f = f ≡ fault.Run c k (run.TooMany place)
 
 -- a stream of a column isn't entered
-abbrev pub FailsAt : ℕ → StreamKind → RunStream → List ℕ → StripeFault → Type 0
-FailsAt c k stream positions f = (cause : RunFault) × StreamFails stream positions cause × IsEnteringFault c k cause f
+abbrev pub FailsToEnter : ℕ → StreamKind → RunStream → List ℕ → StripeFault → Type 0
+FailsToEnter c k stream positions f = (cause : RunFault) × EnteredStreamFails stream positions cause × IsEnteringFault c k cause f
 
 -- one of the streams beside PRESENT isn't, or the dictionary isn't read
 abbrev pub OwnRefused : Shape → Streams → ℕ → List ℕ → StripeFault → Type 0
 OwnRefused s x c positions f =
     ((f ≡ fault.BadPosition (spot.Stream c stream.Data)) × EndsBefore (value_bytes s x) positions)
-    ⊎ (FailsAt c (kind_of_values s (has_dictionary x)) (value_runs s x)
+    ⊎ (FailsToEnter c (kind_of_values s (has_dictionary x)) (value_runs s x)
     (drop (octets_size (value_bytes s x)) positions) f
     ⊎ DictionaryFails s x c f)
 
@@ -72,5 +72,5 @@ abbrev pub ColumnRefused : Shape → Streams → ℕ → List ℕ → StripeFaul
 ColumnRefused s x c positions f =
     ((f ≡ fault.BadPosition (spot.Column c)) × (length positions ≢ positions_size s x))
     ⊎ ((length positions ≡ positions_size s x)
-    × (FailsAt c stream.Present (present_runs (in_present x)) (take (present_size x) positions) f
+    × (FailsToEnter c stream.Present (present_runs (in_present x)) (take (present_size x) positions) f
     ⊎ OwnRefused s x c (drop (present_size x) positions) f))

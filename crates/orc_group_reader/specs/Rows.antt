@@ -5,7 +5,7 @@ use Rattle.orc_values.specs.Columns.{cells}
 use Rattle.orc_values.specs.Shapes.{Shape, width, shape_at}
 use Rattle.orc_wire.specs.declared.row_index.RowIndexEntry.{RowIndexEntry}
 use Rattle.orc_column_reader.specs.Stripe.{Streams, SpellRows}
-use Rattle.orc_column_reader.specs.declared.fault.StripeFault.{StripeFault}
+use Rattle.orc_directory.specs.declared.fault.StripeFault.{StripeFault}
 use Rattle.orc_group_reader.specs.Columns.{AgreeFromPositions}
 use Rattle.orc_group_reader.specs.Refusals.{ColumnRefused}
 

@@ -3,7 +3,7 @@ ghost use Rattle.std.specs.Prelude.{◌≡◌, ◌∷◌, ℕ, [], IfSome, IfNon
 ghost use Rattle.orc_row_index.specs.RunStreams.{bit_runs, byte_runs, number_runs};
 ghost use Rattle.orc_row_index.specs.Walking.{runs};
 ghost use Rattle.orc_group_reader.specs.ReadersAt.{StreamAt};
-ghost use Rattle.orc_group_reader.specs.Refusals.{StreamFails};
+ghost use Rattle.orc_group_reader.specs.Refusals.{EnteredStreamFails};
 ghost use Rattle.orc_group_reader.specs.Streams.{Enters, NeverEnters};
 ghost use Rattle.orc_group_reader.specs.declared.entered.Entered.TheVariants as entered;
 
@@ -67,7 +67,7 @@ fn numbers_from<'a>(
         (Enters (number_runs version sign bytes.now) positions.now)
         (λ _. NeverEnters (number_runs version sign bytes.now) positions.now) }
     ensures at { IfOk result (StreamAt (number_runs version sign bytes.now) positions.now) }
-    ensures fault { IfErr result (StreamFails (number_runs version sign bytes.now) positions.now) }
+    ensures fault { IfErr result (EnteredStreamFails (number_runs version sign bytes.now) positions.now) }
 {
     let Some(pos) = pos_of(positions) else {
         return Err(RunFault::BadPosition(0));
@@ -84,7 +84,7 @@ fn bytes_from<'a>(bytes: &'a [u8], positions: &[u64]) -> Result<Entered<'a>, Run
         (Enters (byte_runs bytes.now) positions.now)
         (λ _. NeverEnters (byte_runs bytes.now) positions.now) }
     ensures at { IfOk result (StreamAt (byte_runs bytes.now) positions.now) }
-    ensures fault { IfErr result (StreamFails (byte_runs bytes.now) positions.now) }
+    ensures fault { IfErr result (EnteredStreamFails (byte_runs bytes.now) positions.now) }
 {
     let Some(pos) = pos_of(positions) else {
         return Err(RunFault::BadPosition(0));
@@ -101,7 +101,7 @@ pub(crate) fn bits_from<'a>(bytes: &'a [u8], positions: &[u64]) -> Result<Bits<'
         (λ bits. Enters (bit_runs bytes.now) positions.now (entered.Bits bits))
         (λ _. NeverEnters (bit_runs bytes.now) positions.now) }
     ensures at { IfOk result (λ bits. StreamAt (bit_runs bytes.now) positions.now (entered.Bits bits)) }
-    ensures fault { IfErr result (StreamFails (bit_runs bytes.now) positions.now) }
+    ensures fault { IfErr result (EnteredStreamFails (bit_runs bytes.now) positions.now) }
 {
     let Some(pos) = bit_pos_of(positions) else {
         return Err(RunFault::BadPosition(0));
@@ -118,7 +118,7 @@ pub(crate) fn enter<'a>(stream: &RunBytes<'a>, positions: &[u64]) -> Result<Ente
         (Enters (runs stream.now) positions.now)
         (λ _. NeverEnters (runs stream.now) positions.now) }
     ensures at { IfOk result (StreamAt (runs stream.now) positions.now) }
-    ensures fault { IfErr result (StreamFails (runs stream.now) positions.now) }
+    ensures fault { IfErr result (EnteredStreamFails (runs stream.now) positions.now) }
 {
     match *stream {
         RunBytes::Nothing => match positions {

@@ -4,10 +4,11 @@ ghost use Rattle.orc_values.specs.Views.{shape};
 ghost use Rattle.orc_column_reader.specs.Faults.{EntriesFail, DictionaryFails};
 ghost use Rattle.orc_column_reader.specs.Starting.{AreStreams, HasNoDictionary, LacksEntries};
 ghost use Rattle.orc_column_reader.specs.Stripe.{Streams};
-ghost use Rattle.orc_column_reader.specs.declared.fault.StripeFault.TheVariants.{OutOfMemory};
-ghost use Rattle.orc_group_reader.specs.Columns.{HasEntries, EntriesOf};
+ghost use Rattle.orc_directory.specs.declared.fault.StripeFault.TheVariants.{OutOfMemory};
+ghost use Rattle.orc_group_reader.specs.Columns.{HasDictionaryEntries, EntriesOf};
 
-use orc_column_reader::{ColumnStreams, Entry, StripeFault, entries_of};
+use orc_column_reader::{ColumnStreams, Entry, entries_of};
+use orc_directory::StripeFault;
 use orc_values::{Scalar, Tree};
 use std::alloc::Global;
 
@@ -18,7 +19,7 @@ fn dictionary_of<'a>(
     streams: &ColumnStreams<'a>,
 ) -> Result<Option<Vec<Entry<'a>>>, StripeFault>
     ensures found { IfOk result (λ entries. (x : Streams) → AreStreams x streams.now
-        → HasEntries streams.now.has_dictionary x entries) }
+        → HasDictionaryEntries streams.now.has_dictionary x entries) }
     ensures none { IfErr result (λ fault. fault ≢ OutOfMemory
         → (x : Streams) → AreStreams x streams.now
         → LacksEntries streams.now.has_dictionary x) }

@@ -1,7 +1,7 @@
 //! Why a stream isn't entered at a position.
 ghost use Rattle.orc_group_reader.specs.Refusals.{IsEnteringFault};
 
-use orc_column_reader::{Spot, StreamKind, StripeFault, run_fault};
+use orc_directory::{Spot, StreamKind, StripeFault, run_fault};
 use orc_rle::RunFault;
 
 /// The fault of a column's stream that isn't entered: `BadPosition` of the stream where the position isn't one of it,

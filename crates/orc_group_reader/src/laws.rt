@@ -10,7 +10,7 @@ ghost use Rattle.orc_column_reader.specs.Faults.{FaultDown};
 ghost use Rattle.orc_column_reader.specs.ReaderFaults.{CellsMeet};
 ghost use Rattle.orc_column_reader.specs.Stripe.{Streams};
 ghost use Rattle.orc_column_reader.specs.declared.column.ColumnReader.{ColumnReader as Reader};
-ghost use Rattle.orc_column_reader.specs.declared.fault.StripeFault.{StripeFault as Fault};
+ghost use Rattle.orc_directory.specs.declared.fault.StripeFault.{StripeFault as Fault};
 ghost use Rattle.orc_group_reader.specs.Behind.{IsBehind};
 ghost use Rattle.orc_group_reader.specs.ReadersAt.{ReadersAt};
 

@@ -3,7 +3,7 @@ ghost use Rattle.std.specs.Prelude.{IfOk, IfErr, MatchResult};
 ghost use Rattle.orc_row_index.specs.RunStreams.{present_runs};
 ghost use Rattle.orc_group_reader.specs.Columns.{EntersMarks};
 ghost use Rattle.orc_group_reader.specs.ReadersAt.{MarksAt};
-ghost use Rattle.orc_group_reader.specs.Refusals.{StreamFails};
+ghost use Rattle.orc_group_reader.specs.Refusals.{EnteredStreamFails};
 ghost use Rattle.orc_group_reader.specs.Streams.{NeverEnters};
 
 use crate::entered::bits_from;
@@ -19,7 +19,7 @@ pub(crate) fn marks_from<'a>(
         (EntersMarks present.now positions.now)
         (λ _. NeverEnters (present_runs present.now) positions.now) }
     ensures at { IfOk result (MarksAt present.now positions.now) }
-    ensures fault { IfErr result (StreamFails (present_runs present.now) positions.now) }
+    ensures fault { IfErr result (EnteredStreamFails (present_runs present.now) positions.now) }
 {
     match present {
         [] => match positions {

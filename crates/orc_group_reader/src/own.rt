@@ -4,10 +4,11 @@ ghost use Rattle.orc_values.specs.Cells.{Cell, values};
 ghost use Rattle.orc_values.specs.Views.{shape};
 ghost use Rattle.orc_column_reader.specs.Starting.{AreStreams};
 ghost use Rattle.orc_column_reader.specs.Stripe.{Streams};
-ghost use Rattle.orc_column_reader.specs.declared.fault.StripeFault.TheVariants.{OutOfMemory};
-ghost use Rattle.orc_row_index.specs.Positions.{octets, octets_position};
+ghost use Rattle.orc_directory.specs.declared.fault.StripeFault.TheVariants.{OutOfMemory};
+ghost use Rattle.orc_row_index.specs.Positions.{octets_position};
+ghost use Rattle.orc_row_groups.specs.Counts.{octets};
 ghost use Rattle.orc_row_index.specs.RunStreams.{value_bytes};
-ghost use Rattle.orc_group_reader.specs.Columns.{OwnTurns, OwnValuesLeft};
+ghost use Rattle.orc_group_reader.specs.Columns.{OwnTurns, EnteredValuesLeft};
 ghost use Rattle.orc_group_reader.specs.ReadersAt.{SourceAt};
 ghost use Rattle.orc_group_reader.specs.Refusals.{OwnRefused};
 
@@ -16,7 +17,8 @@ use crate::entries::column_entries;
 use crate::faults::entering_fault;
 use crate::octets::octets_from;
 use crate::value_source::source_from;
-use orc_column_reader::{ColumnStreams, Spot, StreamKind, StripeFault, ValueSource};
+use orc_column_reader::{ColumnStreams, ValueSource};
+use orc_directory::{Spot, StreamKind, StripeFault};
 use orc_row_index::{placed_streams, values_kind};
 use orc_values::Tree;
 use std::alloc::Global;
@@ -37,7 +39,7 @@ pub(crate) fn own_from<'a>(
         → OwnTurns (shape tree.now) x y before after last
         → positions.now ≡ octets_position (value_bytes (shape tree.now) x) (octets before) ++ last
         → MatchResult result
-        (λ source. OwnValuesLeft (shape tree.now) source (values after))
+        (λ source. EnteredValuesLeft (shape tree.now) source (values after))
         (λ fault. fault ≡ OutOfMemory) }
     ensures at { IfOk result (λ source. (x : Streams) → AreStreams x streams.now
         → SourceAt (shape tree.now) x column positions.now source) }

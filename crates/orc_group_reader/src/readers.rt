@@ -4,14 +4,15 @@ ghost use Rattle.orc_values.specs.Cells.{Cell};
 ghost use Rattle.orc_values.specs.Shapes.{width};
 ghost use Rattle.orc_values.specs.Views.{shape};
 ghost use Rattle.orc_column_reader.specs.Columns.{CellsLeft};
-ghost use Rattle.orc_column_reader.specs.Located.{AreLocated};
+ghost use Rattle.orc_directory.specs.Located.{AreLocated};
 ghost use Rattle.orc_column_reader.specs.Stripe.{Streams, columns_of};
-ghost use Rattle.orc_column_reader.specs.declared.fault.StripeFault.TheVariants.{OutOfMemory};
+ghost use Rattle.orc_directory.specs.declared.fault.StripeFault.TheVariants.{OutOfMemory};
 ghost use Rattle.orc_group_reader.specs.ReadersAt.{ReadersAt};
 ghost use Rattle.orc_group_reader.specs.Rows.{EntriesRefused, RowsTurn};
 
 use crate::reader::reader_at;
-use orc_column_reader::{ColumnReader, Located, StripeFault, streams_of};
+use orc_column_reader::{ColumnReader, streams_of};
+use orc_directory::{Located, StripeFault};
 use orc_values::{Tree, tree_at, width_of};
 use orc_wire::{RowIndexEntry, StripeFooter};
 use std::alloc::Global;

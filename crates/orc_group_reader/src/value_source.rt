@@ -1,6 +1,6 @@
 //! What a column's values are read from, made of streams that were entered.
 ghost use Rattle.std.specs.Prelude.{◌≡◌};
-ghost use Rattle.orc_column_reader.specs.Stripe.{most_cells};
+ghost use Rattle.orc_values.specs.Limits.{most_cells};
 ghost use Rattle.orc_group_reader.specs.Columns.{IsSource};
 
 use crate::entered::Entered;

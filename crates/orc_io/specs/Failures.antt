@@ -3,6 +3,6 @@ use Rattle.std.specs.Prelude.{ℕ, ◌+◌, Option, Some, None}
 use Rattle.std.specs.declared.snapshot.Snapshot.{Snapshot}
 
 -- how many failures there are
-abbrev pub count : Option (Snapshot ℕ) → ℕ
-count None = 0
-count (Some before) = before.value + 1
+abbrev pub failures_counted : Option (Snapshot ℕ) → ℕ
+failures_counted None = 0
+failures_counted (Some before) = before.value + 1

@@ -13,11 +13,11 @@ pub struct Failures {
 
 impl Model for Failures {
     ghost use Rattle.std.specs.Prelude.{ℕ};
-    ghost use Rattle.orc_io.specs.Failures.{count};
+    ghost use Rattle.orc_io.specs.Failures.{failures_counted};
 
     ghost Value = { ℕ };
 
-    ghost view = { λ failures. count failures.before };
+    ghost view = { λ failures. failures_counted failures.before };
 
     ghost size = { λ n. n };
 }

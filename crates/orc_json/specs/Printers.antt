@@ -1,9 +1,9 @@
 -- The fields of a `RowPrinter`.
 use Rattle.std.specs.Prelude.{◌≡◌}
 use Rattle.orc_values.specs.Shapes.{Shape}
-use Rattle.orc_types.specs.FieldNames.{is_distinct}
-use Rattle.orc_json.specs.Layouts.{text_by}
-use Rattle.orc_json.specs.Texts.{Prints}
+use Rattle.orc_json_rows.specs.FieldNames.{is_distinct}
+use Rattle.orc_json_printer.specs.Layouts.{text_by}
+use Rattle.orc_json_printer.specs.Texts.{Prints}
 use Rattle.orc_json.specs.declared.row_printer.RowPrinter.TheInside.{Inside}
 
 -- the shape whose rows a printer prints

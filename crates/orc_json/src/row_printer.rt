@@ -1,17 +1,17 @@
 //! Printing the rows of a schema.
 ghost use Rattle.std.specs.Prelude.{◌≡◌, ◌≢◌, ◌++◌, true, false, IfOk, OnOk, IfErr, OnErr, MatchOption};
 ghost use Rattle.serde_json.specs.Written.{compact_text};
-ghost use Rattle.orc_types.specs.FieldNames.{is_distinct};
+ghost use Rattle.orc_json_rows.specs.FieldNames.{is_distinct};
 ghost use Rattle.orc_values.specs.Fits.{fits};
-ghost use Rattle.orc_types.specs.JsonPrinting.{json_of};
+ghost use Rattle.orc_json_rows.specs.JsonPrinting.{json_of};
 ghost use Rattle.orc_values.specs.Views.{view};
-ghost use Rattle.orc_types.specs.declared.json_fault.JsonFault.TheVariants as fault;
-ghost use Rattle.orc_json.specs.Growth.{Grows};
-ghost use Rattle.orc_json.specs.Layouts.{text_by};
-ghost use Rattle.orc_json.specs.Texts.{Prints};
+ghost use Rattle.orc_json_rows.specs.declared.json_fault.JsonFault.TheVariants as fault;
+ghost use Rattle.orc_json_printer.specs.Growth.{Grows};
+ghost use Rattle.orc_json_printer.specs.Layouts.{text_by};
+ghost use Rattle.orc_json_printer.specs.Texts.{Prints};
 
-use crate::layout::{Layout, layout_of};
-use crate::printing::push_text;
+use orc_json_printer::layout::{Layout, layout_of};
+use orc_json_printer::printing::push_text;
 use orc_types::{JsonFault, Schema, row_to_json};
 use orc_values::Row;
 use std::alloc::{AllocError, Global};

@@ -1,38 +1,31 @@
 -- The cells of a struct's fields, beside the members of an object as they come.
-use Rattle.std.proofs.Common.{◌≡◌, ℕ, zero, suc, ◌<◌, List, [], ◌∷◌, length, get_or, replicate, Bool, true, false, not, ◌&&◌, ◌||◌, Option, Some, None, Ordering, Less, Equal, Greater, string_bytes, bytes_eq, refl, sym, ap, ◌∙◌, subst, arith}
+use Rattle.std.proofs.Common.{◌≡◌, ℕ, zero, suc, ◌<◌, List, [], ◌∷◌, length, get_or, replicate, Bool, true, false, not, ◌||◌, Option, Some, None, string_bytes, bytes_eq, refl, sym, ap, ◌∙◌, subst, arith}
 use Rattle.std.proofs.Math.ListN.{set, length-set}
-use Rattle.std.proofs.lemmas.Bool.{and_parts, not-true}
+use Rattle.std.proofs.lemmas.Bool.{and_parts, not-true, or_parts}
 use Rattle.std.proofs.lemmas.Slice.Eq.{bytes_eq-Decides}
-use Rattle.std.specs.Ordering.{match_ordering}
 use Rattle.json.specs.Token.{Token}
 use Rattle.json.specs.Json.{read_key}
-use Rattle.serde_json.specs.Data.{Data, object, Members, no_members, member, put}
+use Rattle.serde_json.specs.Data.{Data, object, Members, no_members, put}
 use Rattle.serde_json.specs.Find.{get_member}
 use Rattle.serde_json.proofs.Views.{get_member-put, get_member-put_other}
 use Rattle.orc_values.specs.Cells.{Cells, end, more, cells_of}
-use Rattle.orc_types.specs.FieldNames.{is_among, all_differ, all_known}
-use Rattle.orc_types.specs.JsonRows.{Spells, MemberSpells, FieldsSpell}
+use Rattle.orc_json_rows.specs.FieldNames.{is_among, all_differ}
+use Rattle.orc_json_rows.specs.JsonRows.{JsonSpells, MemberSpells, FieldsSpell}
 use Rattle.orc_values.specs.Shapes.{Shape, Fields, no_field, field, names_of}
 use Rattle.orc_values.specs.Views.{view, views, shape, fields}
 use Rattle.orc_values.specs.declared.tree.Field.{Field}
 use Rattle.orc_values.specs.declared.value.Value.{Value}
 use Rattle.orc_values.proofs.Views.{name_and_type-is}
-use Rattle.orc_json_reader.specs.Fronts.{ValueFront, MembersFront, AreFields}
+use Rattle.orc_json_reader.specs.Fronts.{ValueFront, MembersFront, MembersSpell}
 use Rattle.orc_json_reader.specs.Frontier.{read_up_to}
 use Rattle.orc_json_reader.proofs.FrontierLemmas.{read_up_to-length, read_up_to-none}
 use Rattle.orc_json_reader.proofs.MemberLemmas.{MembersGo, members_first, members_next, members_last}
+use Rattle.orc_json_rows.proofs.JsonBack.{put_known}
 
 -- ---- names
 
-no_or : (a b : Bool) → (a || b) ≡ false → (a ≡ false) × (b ≡ false)
-no_or true b h = cc
-no_or false b h = (refl, h)
-
 apart : (n k : List ℕ) → bytes_eq n k ≡ false → n ≡ k → ⊥
 apart n k e same = let t : bytes_eq n k ≡ true = (bytes_eq-Decides n k).1 same in cc
-
-equal : (n : List ℕ) → bytes_eq n n ≡ true
-equal n = (bytes_eq-Decides n n).1 refl
 
 -- the field at a place has the name and the type
 abbrev pub IsField : Fields → ℕ → List ℕ → Shape → Type 0
@@ -53,23 +46,6 @@ among_at (field n s fs) (suc i) k t h = or_later (bytes_eq n k) (is_among (names
   or_later true b e = refl
   or_later false b e = e
 
--- ---- keys that are known
-
-both : (a b : Bool) → a ≡ true → b ≡ true → (a && b) ≡ true
-both true b p q = q
-both false b p q = cc
-
-known_by : (ns : List (List ℕ)) (o : Ordering) (a b c : Members) → all_known ns a ≡ true → all_known ns b ≡ true → all_known ns c ≡ true → all_known ns (match_ordering o a b c) ≡ true
-known_by ns Less a b c p q r = p
-known_by ns Equal a b c p q r = q
-known_by ns Greater a b c p q r = r
-
-known_put : (ns : List (List ℕ)) (k : List ℕ) (d : Data) (ms : Members) → is_among ns k ≡ true → all_known ns ms ≡ true → all_known ns (put k d ms) ≡ true
-known_put ns k d no_members among known = both _ _ among refl
-known_put ns k d (member l e ms) among known =
-    let p = and_parts (is_among ns l) (all_known ns ms) known in
-    known_by ns _ (member k d (member l e ms)) (member l d ms) (member l e (put k d ms)) (both _ _ among known) (both _ _ p.0 p.1) (both _ _ p.0 (known_put ns k d ms among p.1))
-
 -- ---- a member more
 
 -- a key that is none of the names changes nothing of their fields
@@ -78,13 +54,13 @@ fields_other no_field k d ms end h s = tt
 fields_other no_field k d ms (more c cs) h s = absurd s
 fields_other (field n t fs) k d ms end h s = absurd s
 fields_other (field n t fs) k d ms (more c cs) h s =
-    let p = no_or (bytes_eq n k) (is_among (names_of fs) k) h in (
-      subst (λ (o : Option Data). MemberSpells (λ e x. Spells t e x) o c) (sym (get_member-put_other n k d ms (apart n k p.0))) s.0,
+    let p = or_parts (bytes_eq n k) (is_among (names_of fs) k) h in (
+      subst (λ (o : Option Data). MemberSpells (λ e x. JsonSpells t e x) o c) (sym (get_member-put_other n k d ms (apart n k p.0))) s.0,
       fields_other fs k d ms cs p.1 s.1,
     )
 
 -- what a name's member spells takes the place of its field's cell
-fields_put : (fs : Fields) (i : ℕ) (k : List ℕ) (t : Shape) (d : Data) (ms : Members) (rows : List (Option Value)) (r : Option Value) → IsField fs i k t → all_differ (names_of fs) ≡ true → Spells t d (view r)
+fields_put : (fs : Fields) (i : ℕ) (k : List ℕ) (t : Shape) (d : Data) (ms : Members) (rows : List (Option Value)) (r : Option Value) → IsField fs i k t → all_differ (names_of fs) ≡ true → JsonSpells t d (view r)
     → FieldsSpell fs (object ms) (cells_of (views rows)) → FieldsSpell fs (object (put k d ms)) (cells_of (views (set rows i r)))
 fields_put no_field i k t d ms rows r at differ one spell = absurd at
 fields_put (field n s fs) i k t d ms [] r at differ one spell = absurd spell
@@ -92,14 +68,14 @@ fields_put (field n s fs) zero k t d ms (q ∷ rows) r at differ one spell =
     let p = and_parts (not (is_among (names_of fs) n)) (all_differ (names_of fs)) differ in
     let found : get_member n (put k d ms) ≡ Some d = ap (λ (x : List ℕ). get_member x (put k d ms)) at.0 ∙ get_member-put k d ms in
     let new : is_among (names_of fs) k ≡ false = ap (is_among (names_of fs)) (sym at.0) ∙ not-true (is_among (names_of fs) n) p.0 in (
-      subst (λ (o : Option Data). MemberSpells (λ e x. Spells s e x) o (view r)) (sym found) (subst (λ (u : Shape). Spells u d (view r)) (sym at.1) one),
+      subst (λ (o : Option Data). MemberSpells (λ e x. JsonSpells s e x) o (view r)) (sym found) (subst (λ (u : Shape). JsonSpells u d (view r)) (sym at.1) one),
       fields_other fs k d ms (cells_of (views rows)) new spell.1,
     )
 fields_put (field n s fs) (suc i) k t d ms (q ∷ rows) r at differ one spell =
     let p = and_parts (not (is_among (names_of fs) n)) (all_differ (names_of fs)) differ in
     let new : is_among (names_of fs) n ≡ false = not-true (is_among (names_of fs) n) p.0 in
     let other : n ≡ k → ⊥ = λ same. let t : is_among (names_of fs) n ≡ true = ap (is_among (names_of fs)) same ∙ among_at fs i k t at in cc in (
-      subst (λ (o : Option Data). MemberSpells (λ e x. Spells s e x) o (view q)) (sym (get_member-put_other n k d ms other)) spell.0,
+      subst (λ (o : Option Data). MemberSpells (λ e x. JsonSpells s e x) o (view q)) (sym (get_member-put_other n k d ms other)) spell.0,
       fields_put fs i k t d ms rows r at p.1 one spell.1,
     )
 
@@ -109,7 +85,7 @@ pub record FieldsGo (fs : List Field) (depth : ℕ) (start now : List Token) (ro
   pub found : Members
   pub go : MembersGo depth start now found
   pub as_many : length rows ≡ length fs
-  pub are : AreFields (fields fs) found (cells_of (views rows))
+  pub are : MembersSpell (fields fs) found (cells_of (views rows))
 
 nulls_spell : (fs : List Field) → FieldsSpell (fields fs) (object no_members) (cells_of (views (replicate (length fs) None)))
 nulls_spell [] = tt
@@ -126,19 +102,19 @@ fields_first fs depth start rows e =
     }
 
 pub fields_next : (fs : List Field) (depth : ℕ) (start now s r : List Token) (rows : List (Option Value)) (k : List ℕ) (i : ℕ) (f : Field) (row : Option Value) → i < length fs → f ≡ get_or fs i f → string_bytes f.name ≡ k
-    → all_differ (names_of (fields fs)) ≡ true → read_key now ≡ Some (Some k, s) → ValueFront (λ d. Spells (shape f.tree) d (view row)) depth s r → length s < length now → length r < length s
+    → all_differ (names_of (fields fs)) ≡ true → read_key now ≡ Some (Some k, s) → ValueFront (λ d. JsonSpells (shape f.tree) d (view row)) depth s r → length s < length now → length r < length s
     → FieldsGo fs depth start now rows → FieldsGo fs depth start r (set rows i row)
 fields_next fs depth start now s r rows k i f row lt is named differ key v less lesser w =
     let at : IsField (fields fs) i k (shape f.tree) = subst (λ (x : List ℕ). IsField (fields fs) i x (shape f.tree)) named (field_at fs i f lt is) in
     record {
       found = put k v.value w.found;
-      go = members_next (λ d. Spells (shape f.tree) d (view row)) depth start now s r k w.found key v less lesser w.go;
+      go = members_next (λ d. JsonSpells (shape f.tree) d (view row)) depth start now s r k w.found key v less lesser w.go;
       as_many = length-set rows i row ∙ w.as_many;
-      are = (known_put (names_of (fields fs)) k v.value w.found (among_at (fields fs) i k (shape f.tree) at) w.are.0, fields_put (fields fs) i k (shape f.tree) v.value w.found rows row at differ v.is w.are.1);
+      are = (put_known (names_of (fields fs)) k v.value w.found (among_at (fields fs) i k (shape f.tree) at) w.are.0, fields_put (fields fs) i k (shape f.tree) v.value w.found rows row at differ v.is w.are.1);
     }
 
 pub fields_last : (fs : List Field) (depth : ℕ) (start now r : List Token) (rows : List (Option Value)) → read_key now ≡ Some (None, r) → FieldsGo fs depth start now rows
-    → MembersFront (λ ms. AreFields (fields fs) ms (cells_of (views rows))) depth start r
+    → MembersFront (λ ms. MembersSpell (fields fs) ms (cells_of (views rows))) depth start r
 fields_last fs depth start now r rows e w =
     let m = members_last depth start now r w.found e w.go in
-    record { text = m.text; members = m.members; read = m.read; means = m.means; are = subst (λ (ms : Members). AreFields (fields fs) ms (cells_of (views rows))) (sym m.are) w.are }
+    record { text = m.text; members = m.members; read = m.read; means = m.means; are = subst (λ (ms : Members). MembersSpell (fields fs) ms (cells_of (views rows))) (sym m.are) w.are }

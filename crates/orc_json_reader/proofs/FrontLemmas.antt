@@ -6,10 +6,10 @@ use Rattle.json.specs.Json.{parse_map, after_end_array}
 use Rattle.json.proofs.Grammar.{value_is, value-begin_array, value-begin_object, items_more, items_end}
 use Rattle.serde_json.specs.Data.{Data, array, object, Items, no_items, item, Members}
 use Rattle.serde_json.specs.Read.{of_json, of_items}
-use Rattle.orc_json_reader.specs.Fronts.{data_of, ValueFront, ItemsFront, MembersFront}
+use Rattle.orc_json_reader.specs.Fronts.{token_data, ValueFront, ItemsFront, MembersFront}
 
 -- a token that is a value by itself
-pub token_front : (Is : Data → Type 0) (t : Token) (d : Data) (depth : ℕ) (ts : List Token) → data_of t ≡ Some d → Is d → ValueFront Is depth (t ∷ ts) ts
+pub token_front : (Is : Data → Type 0) (t : Token) (d : Data) (depth : ℕ) (ts : List Token) → token_data t ≡ Some d → Is d → ValueFront Is depth (t ∷ ts) ts
 token_front Is Token.begin_object d depth ts e is = absurd (cc)
 token_front Is Token.end_object d depth ts e is = absurd (cc)
 token_front Is Token.begin_array d depth ts e is = absurd (cc)

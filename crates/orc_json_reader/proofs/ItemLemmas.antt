@@ -7,8 +7,8 @@ use Rattle.json.proofs.Grammar.{items_more, items_end}
 use Rattle.serde_json.specs.Data.{Data, Items, no_items, item}
 use Rattle.serde_json.specs.Read.{of_items}
 use Rattle.orc_values.specs.Cells.{Cell, Cells, end, more, Pairs, no_pair, pair, cells_of, pairs_of}
-use Rattle.orc_types.specs.JsonRows.{EachSpells, PairSpells, PairsSpell}
-use Rattle.orc_types.proofs.JsonFronts.{before, before_pairs}
+use Rattle.orc_json_rows.specs.JsonRows.{EachSpells, PairSpells, PairsSpell}
+use Rattle.orc_json_rows.proofs.JsonFronts.{before, before_pairs, before-push, before-end, before_pairs-push, before_pairs-end}
 use Rattle.orc_json_reader.specs.Fronts.{ValueFront, ItemsFront}
 use Rattle.orc_json_reader.proofs.FrontLemmas.{item_means}
 
@@ -49,14 +49,6 @@ items_last X R depth start now r g x none e w = w.goes json.no_items no_items x 
 
 -- ---- elements
 
-before-push : (xs : List Cell) (x : Cell) (ys : Cells) → before (xs ++ x ∷ []) ys ≡ before xs (more x ys)
-before-push [] x ys = refl
-before-push (y ∷ xs) x ys = ap (λ zs. more y zs) (before-push xs x ys)
-
-before-end : (xs : List Cell) → before xs end ≡ cells_of xs
-before-end [] = refl
-before-end (x ∷ xs) = ap (λ zs. more x zs) (before-end xs)
-
 abbrev pub ElementsGo : (Data → Cell → Type 0) → ℕ → List Token → List Token → List Cell → Type 0
 ElementsGo Is depth start now xs = ItemsGo Cells (EachSpells Is) depth start now (before xs)
 
@@ -74,14 +66,6 @@ elements_last Is depth start now r xs e w =
     subst (λ (y : Cells). ItemsFront (λ ds. EachSpells Is ds y) depth start r) (before-end xs) (items_last Cells (EachSpells Is) depth start now r (before xs) end tt e w)
 
 -- ---- pairs
-
-before_pairs-push : (ps : List (Cell × Cell)) (p : Cell × Cell) (qs : Pairs) → before_pairs (ps ++ p ∷ []) qs ≡ before_pairs ps (pair p.0 p.1 qs)
-before_pairs-push [] p qs = refl
-before_pairs-push (q ∷ ps) p qs = ap (λ zs. pair q.0 q.1 zs) (before_pairs-push ps p qs)
-
-before_pairs-end : (ps : List (Cell × Cell)) → before_pairs ps no_pair ≡ pairs_of ps
-before_pairs-end [] = refl
-before_pairs-end (p ∷ ps) = ap (λ zs. pair p.0 p.1 zs) (before_pairs-end ps)
 
 abbrev pub PairsGo : (Data → Cell → Type 0) → (Data → Cell → Type 0) → ℕ → List Token → List Token → List (Cell × Cell) → Type 0
 PairsGo K V depth start now ps = ItemsGo Pairs (PairsSpell K V) depth start now (before_pairs ps)

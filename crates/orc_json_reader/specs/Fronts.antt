@@ -7,16 +7,16 @@ use Rattle.serde_json.specs.Data.{Data, null, boolean, number, string, object, I
 use Rattle.serde_json.specs.Read.{number_of, of_json, of_items, of_members}
 use Rattle.orc_values.specs.Shapes.{Fields, names_of}
 use Rattle.orc_values.specs.Cells.{Cells}
-use Rattle.orc_types.specs.FieldNames.{all_known}
-use Rattle.orc_types.specs.JsonRows.{FieldsSpell}
+use Rattle.orc_json_rows.specs.FieldNames.{all_known}
+use Rattle.orc_json_rows.specs.JsonRows.{FieldsSpell}
 
 -- the value of a token that is one by itself: a string, a number, true, false or null
-abbrev pub data_of : Token → Option Data
-data_of (Token.string s) = Some (string s)
-data_of (Token.number s) = option_map number (number_of s)
-data_of (Token.boolean b) = Some (boolean b)
-data_of Token.null = Some null
-data_of _ = None
+abbrev pub token_data : Token → Option Data
+token_data (Token.string s) = Some (string s)
+token_data (Token.number s) = option_map number (number_of s)
+token_data (Token.boolean b) = Some (boolean b)
+token_data Token.null = Some null
+token_data _ = None
 
 -- A value comes first, and of what it stands for the fact holds. Arrays and objects nest so deep in it at most.
 pub record ValueFront (Is : Data → Type 0) (depth : ℕ) (old new : List Token) : Type 0 where
@@ -43,5 +43,5 @@ pub record MembersFront (Are : Members → Type 0) (depth : ℕ) (old new : List
   pub are : Are members
 
 -- the members spell the fields' cells, and none has another key
-abbrev pub AreFields : Fields → Members → Cells → Type 0
-AreFields fs ms cs = (all_known (names_of fs) ms ≡ true) × FieldsSpell fs (object ms) cs
+abbrev pub MembersSpell : Fields → Members → Cells → Type 0
+MembersSpell fs ms cs = (all_known (names_of fs) ms ≡ true) × FieldsSpell fs (object ms) cs

@@ -1,3 +1,2 @@
-pub mod RowTexts
 pub mod Fronts
 pub mod Frontier

@@ -4,16 +4,16 @@ ghost use Rattle.json.specs.Reads.{token_of};
 ghost use Rattle.serde_json.specs.Data.{Data, boolean, number, string};
 ghost use Rattle.serde_json.specs.Read.{number_of};
 ghost use Rattle.orc_values.specs.Cells.{leaf, text as spec_text};
-ghost use Rattle.orc_types.specs.JsonLeaves.{IsInteger, ScalarSpells};
+ghost use Rattle.orc_json_rows.specs.JsonLeaves.{IsInteger, ScalarSpells};
 ghost use Rattle.orc_values.specs.declared.kind.Scalar.TheVariants.{Date};
 ghost use Rattle.orc_values.specs.Views.{view};
-ghost use Rattle.orc_json_reader.specs.Fronts.{data_of, ValueFront};
+ghost use Rattle.orc_json_reader.specs.Fronts.{token_data, ValueFront};
 
 use crate::integers::integer_of;
 use crate::old_room::is_text_kept;
 use crate::unread::Unread;
 use json::{Reader, Token};
-use orc_types::{JsonFault, leaf_from_text};
+use orc_json_rows::{JsonFault, leaf_from_text};
 use orc_values::{Row, Scalar, Value, int_fits};
 use std::alloc::{AllocError, Global};
 use std::borrow::CowStr;
@@ -126,7 +126,7 @@ fn read_leaf(
     cell: &mut Row<'static>,
 ) -> Result<(), Unread>
     ensures { OnOk result
-        ((d : Data) × (data_of (token_of token.entry) ≡ Some d) × ScalarSpells kind d (view cell.new)) }
+        ((d : Data) × (token_data (token_of token.entry) ≡ Some d) × ScalarSpells kind d (view cell.new)) }
 {
     match token {
         Token::Null => {

@@ -1,4 +1,4 @@
-//! A row's JSON as text, read straight to the row: token by token down the schema, with no value of JSON in between.
+//! A row's JSON as text, read straight to the row: token by token down a tree of types, with no value of JSON in between.
 #![tactic(auto)]
 
 mod field_places;
@@ -6,7 +6,7 @@ mod integers;
 mod leaf_reading;
 mod old_room;
 mod reading;
-mod row_reader;
 mod unread;
 
-pub use row_reader::RowReader;
+pub use reading::read_value;
+pub use unread::Unread;

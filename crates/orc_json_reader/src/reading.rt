@@ -5,11 +5,11 @@
 //! of the old row, so nothing of it is in the new one. After a refusal the cell holds what was read so far and what is old.
 ghost use Rattle.std.specs.Prelude.{◌≡◌, ◌<◌, length, map, true, OnOk};
 ghost use Rattle.orc_values.specs.Cells.{cells_of, pairs_of};
-ghost use Rattle.orc_types.specs.FieldNames.{is_distinct, are_distinct, all_differ};
-ghost use Rattle.orc_types.specs.JsonRows.{OrNull, Spells, EachSpells, ArraySpells, PairSpells, PairsSpell, MapSpells, FieldsSpell, ObjectSpells};
+ghost use Rattle.orc_json_rows.specs.FieldNames.{is_distinct, are_distinct, all_differ};
+ghost use Rattle.orc_json_rows.specs.JsonRows.{OrNull, JsonSpells, EachSpells, ArraySpells, PairSpells, PairsSpell, MapSpells, FieldsSpell, ObjectSpells};
 ghost use Rattle.orc_values.specs.Shapes.{names_of};
 ghost use Rattle.orc_values.specs.Views.{view, views, paired, shape, fields as fields_view};
-ghost use Rattle.orc_json_reader.specs.Fronts.{ValueFront, ItemsFront, MembersFront, AreFields};
+ghost use Rattle.orc_json_reader.specs.Fronts.{ValueFront, ItemsFront, MembersFront, MembersSpell};
 
 use crate::field_places::{end_at, pass_to, place_of};
 use crate::leaf_reading::read_scalar;
@@ -23,7 +23,7 @@ use std::alloc::Global;
 
 /// Reads the row that the next value spells. Arrays and objects may nest `depth` deep in it, the value itself among them.
 #[cycle(reading)]
-pub(crate) fn read_value(
+pub fn read_value(
     alloc: Global,
     tree: &Tree,
     depth: usize,
@@ -31,8 +31,11 @@ pub(crate) fn read_value(
     cell: &mut Row<'static>,
 ) -> Result<(), Unread>
     requires { is_distinct (shape tree.now) ≡ true }
+    // If no struct of the type names a field twice and the value is read, then the tokens began with a value in
+    // which arrays and objects nest at most `depth` deep, it spells the new cell under the type, and the tokens
+    // behind it are left, which are fewer than before.
     ensures found { OnOk result
-        (ValueFront (λ d. Spells (shape tree.now) d (view cell.new)) depth reader.old reader.new) }
+        (ValueFront (λ d. JsonSpells (shape tree.now) d (view cell.new)) depth reader.old reader.new) }
     ensures shorter { OnOk result (length reader.new < length reader.old) }
 {
     match tree {
@@ -55,7 +58,7 @@ fn read_list(
 ) -> Result<(), Unread>
     requires { is_distinct (shape element.now) ≡ true }
     ensures found { OnOk result (ValueFront
-        (λ d. OrNull d (view cell.new) (ArraySpells (Spells (shape element.now)) d (view cell.new))) depth reader.old reader.new) }
+        (λ d. OrNull d (view cell.new) (ArraySpells (JsonSpells (shape element.now)) d (view cell.new))) depth reader.old reader.new) }
     ensures shorter { OnOk result (length reader.new < length reader.old) }
 {
     match reader.next() {
@@ -88,7 +91,7 @@ fn read_map(
     requires keys { is_distinct (shape key.now) ≡ true }
     requires values { is_distinct (shape value.now) ≡ true }
     ensures found { OnOk result (ValueFront
-        (λ d. OrNull d (view cell.new) (MapSpells (Spells (shape key.now)) (Spells (shape value.now)) d (view cell.new)))
+        (λ d. OrNull d (view cell.new) (MapSpells (JsonSpells (shape key.now)) (JsonSpells (shape value.now)) d (view cell.new)))
         depth reader.old reader.new) }
     ensures shorter { OnOk result (length reader.new < length reader.old) }
 {
@@ -154,7 +157,7 @@ fn read_elements(
 ) -> Result<(), Unread>
     requires { is_distinct (shape tree.now) ≡ true }
     ensures found { OnOk result (ItemsFront
-        (λ ds. EachSpells (Spells (shape tree.now)) ds (cells_of (views rows.new.items))) depth reader.old reader.new) }
+        (λ ds. EachSpells (JsonSpells (shape tree.now)) ds (cells_of (views rows.new.items))) depth reader.old reader.new) }
     ensures shorter { OnOk result (length reader.new < length reader.old) }
 {
     let mut count = 0;
@@ -180,7 +183,7 @@ fn read_pair(
     requires keys { is_distinct (shape key.now) ≡ true }
     requires values { is_distinct (shape value.now) ≡ true }
     ensures found { OnOk result (ValueFront
-        (λ d. PairSpells (Spells (shape key.now)) (Spells (shape value.now)) d (view pair.new.key) (view pair.new.value))
+        (λ d. PairSpells (JsonSpells (shape key.now)) (JsonSpells (shape value.now)) d (view pair.new.key) (view pair.new.value))
         depth reader.old reader.new) }
     ensures shorter { OnOk result (length reader.new < length reader.old) }
 {
@@ -211,7 +214,7 @@ fn read_pairs(
     requires keys { is_distinct (shape key.now) ≡ true }
     requires values { is_distinct (shape value.now) ≡ true }
     ensures found { OnOk result (ItemsFront
-        (λ ds. PairsSpell (Spells (shape key.now)) (Spells (shape value.now)) ds (pairs_of (map paired pairs.new.items)))
+        (λ ds. PairsSpell (JsonSpells (shape key.now)) (JsonSpells (shape value.now)) ds (pairs_of (map paired pairs.new.items)))
         depth reader.old reader.new) }
     ensures shorter { OnOk result (length reader.new < length reader.old) }
 {
@@ -239,7 +242,7 @@ fn read_fields(
     requires distinct { are_distinct (fields_view fields.now.items) ≡ true }
     requires as_many { length rows.old.items ≡ length fields.now.items }
     ensures found { OnOk result (MembersFront
-        (λ ms. AreFields (fields_view fields.now.items) ms (cells_of (views rows.new.items))) depth reader.old reader.new) }
+        (λ ms. MembersSpell (fields_view fields.now.items) ms (cells_of (views rows.new.items))) depth reader.old reader.new) }
     ensures shorter { OnOk result (length reader.new < length reader.old) }
 {
     // rows before this place are read, or null where no key has named them yet; from it on they are the old ones

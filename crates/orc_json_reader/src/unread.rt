@@ -5,7 +5,7 @@ use std::alloc::{AllocError, AllocFailed};
 
 /// Why a text isn't read straight to its row.
 #[derive(Clone, Copy, Debug, Drop)]
-pub(crate) enum Unread {
+pub enum Unread {
     /// What stands there spells no row, or in a way that isn't followed here. Which of them, and which refusal, is found
     /// out by the text's value.
     Declined,

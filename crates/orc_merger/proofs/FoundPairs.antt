@@ -17,7 +17,7 @@ use Rattle.std.proofs.lemmas.Map.Lookups.{exact_bytes}
 use Rattle.std.proofs.lemmas.Map.Text.{is_eq-slice_cmp}
 use Rattle.std.proofs.lemmas.Slice.Eq.{bytes_eq-Decides}
 use Rattle.orc_wire.specs.declared.footer.UserMetadataItem.{UserMetadataItem}
-use Rattle.orc_merger.specs.PairPlaces.{place_of, IsNamedAt, ArePlaces}
+use Rattle.orc_merger.specs.PairPlaces.{place_of, IsNamedAt, ArePairPlaces}
 use Rattle.orc_merger.proofs.Names.{in_cons}
 
 -- ---- a map with one name more
@@ -100,7 +100,7 @@ some_here true v o e = refl
 some_here false v o e = cc
 
 pub places_push : {Y : Type 0} (pairs : List UserMetadataItem) (p : UserMetadataItem) (old new : BTreeMap (Vec ℕ Y) ℕ) (k : Vec ℕ Y) (v : ℕ) → k.items ≡ p.name → v ≡ length pairs
-    → new.entries ≡ insert_entry by_bytes old.entries k v → ArePlaces pairs old → ArePlaces (pairs ++ p ∷ []) new
+    → new.entries ≡ insert_entry by_bytes old.entries k v → ArePairPlaces pairs old → ArePairPlaces (pairs ++ p ∷ []) new
 places_push pairs p old new k v named last e are =
     let now : (name : List ℕ) → place_of new name ≡ cond (bytes_eq name p.name) (Some (length pairs)) (place_of old name)
     = λ name. place-insert old new k v e name ∙ ap (λ (x : List ℕ). cond (bytes_eq name x) (Some v) (place_of old name)) named
@@ -118,7 +118,7 @@ places_push pairs p old new k v named last e are =
 
 -- ---- what is found
 
-pub no_places : {Y : Type 0} (places : BTreeMap (Vec ℕ Y) ℕ) → IsEmpty places → ArePlaces [] places
+pub no_places : {Y : Type 0} (places : BTreeMap (Vec ℕ Y) ℕ) → IsEmpty places → ArePairPlaces [] places
 no_places places empty = record {
   each = λ p c. absurd (omega (arith, c.1));
   found = λ name i is.
@@ -138,7 +138,7 @@ some_there pairs i P None at lt = absurd (omega (arith, at.3, lt))
 some_there pairs i P (Some x) at lt = tt
 
 -- no pair has a name that the map doesn't have
-pub none_named : {Y : Type 0} (pairs : List UserMetadataItem) (places : BTreeMap (Vec ℕ Y) ℕ) (name : List ℕ) → ArePlaces pairs places → None ≡ place_of places name
+pub none_named : {Y : Type 0} (pairs : List UserMetadataItem) (places : BTreeMap (Vec ℕ Y) ℕ) (name : List ℕ) → ArePairPlaces pairs places → None ≡ place_of places name
     → All (λ (q : UserMetadataItem). q.name ≢ name) pairs
 none_named pairs places name are none = λ i d lt e.
     let q : UserMetadataItem = slice_index_or pairs i d in

@@ -4,7 +4,7 @@ use Rattle.std.specs.Prelude.{slice_index, slice_index_or}
 use Rattle.std.specs.Option.{IfSome}
 use Rattle.std.proofs.lemmas.List.{take_more, drop_more, take-append-drop, get_or-map, length-map, length_push}
 use Rattle.orc_tail.specs.Stripes.{AllBefore}
-use Rattle.orc_tail.specs.Tails.{IsTail, OpenFault, IsOfTail}
+use Rattle.orc_tail.specs.Tails.{IsTail, TailOpenFault, IsOfTail}
 use Rattle.orc_tail.specs.Images.{IsWithinLimits}
 use Rattle.orc_tail.specs.declared.tail.Tail.{Tail}
 use Rattle.orc_tail.specs.declared.fault.FileFault.{FileFault}
@@ -12,17 +12,17 @@ use Rattle.orc_tail.specs.declared.fault.FileFault.TheVariants as file_fault
 use Rattle.orc_merger.specs.declared.fault.MergeFault.{MergeFault}
 use Rattle.orc_merger.specs.declared.fault.MergeFault.TheVariants as fault
 use Rattle.orc_merger.specs.Merging.{AreOpened}
-use Rattle.orc_merger.specs.Faults.{NextFault, AreGathered, InputFault, IsRefused, IsDeviceFault, IsOfBytes, IsOfMerge}
+use Rattle.orc_merger.specs.Faults.{NextFault, AreGathered, InputFault, IsMergeRefused, IsDeviceFault, IsOfBytes, IsOfMerge}
 use Rattle.orc_merger.specs.Outcomes.{IsAnswer}
-use Rattle.orc_merger.specs.Inputs.{AreWithin, AreTailsOf, IsCounted}
-use Rattle.orc_merger.proofs.Bits.{all-append}
+use Rattle.orc_merger.specs.Inputs.{EndWithinInputs, AreTailsOf, CountsFailure}
 use Rattle.orc_merger.proofs.BytesOut.{told_at, index_rose}
-use Rattle.orc_merger.proofs.Refusing.{opened_push}
+use Rattle.orc_merger.proofs.Opened.{opened_push}
+use Rattle.orc_values.proofs.Lists.{all_append}
 
 -- ---- tails
 
-within_push : (sizes : List ℕ) (ts : List Tail) (t : Tail) → AreWithin sizes ts → length ts < length sizes
-    → AllBefore (slice_index sizes (length ts)) t.stripes → AreWithin sizes (ts ++ t ∷ [])
+within_push : (sizes : List ℕ) (ts : List Tail) (t : Tail) → EndWithinInputs sizes ts → length ts < length sizes
+    → AllBefore (slice_index sizes (length ts)) t.stripes → EndWithinInputs sizes (ts ++ t ∷ [])
 within_push [] ts t w lt b = absurd (omega (arith, lt))
 within_push (n ∷ sizes) [] t w lt b = (b, tt)
 within_push (n ∷ sizes) (u ∷ us) t w lt b = (w.0, within_push sizes us t w.1 (omega (arith, lt)) b)
@@ -48,7 +48,7 @@ one_more {A} told size inputs n d ts t lt a limits before is =
     ap (slice_index (map size inputs)) many ∙ get_or-map size inputs n d 0 lt in
     record {
       many = length_push ts t ∙ ap (λ (k : ℕ). k + 1) many;
-      limits = all-append IsWithinLimits ts (t ∷ []) a.limits (limits, tt);
+      limits = all_append IsWithinLimits ts (t ∷ []) a.limits (limits, tt);
       within = within_push (map size inputs) ts t a.within short (subst (λ (k : ℕ). AllBefore k t.stripes) (sym at) before);
       opened = λ files same.
           let in_files : n < length files = omega (arith, lt, as_many told inputs files same) in
@@ -63,7 +63,7 @@ no_tails told sizes = record { many = refl; limits = tt; within = tt; opened = �
 -- ---- refusals
 
 refused_at : (files : List (List ℕ)) (n : ℕ) (ts : List Tail) (e : MergeFault) → n < length files → AreOpened (take n files) ts → AreGathered ts
-    → InputFault ts (slice_index_or files n []) e → IsRefused files e
+    → InputFault ts (slice_index_or files n []) e → IsMergeRefused files e
 refused_at files n ts e lt o g fails =
     inr (record {
       front = take n files;
@@ -79,7 +79,7 @@ refused_at files n ts e lt o g fails =
 -- why no tail is found
 abbrev pub NoTail : ℕ → Option (List ℕ) → MergeFault → Type 0
 NoTail n told e =
-    (e ≡ fault.OutOfMemory) ⊎ ((e ≡ fault.SourceFailed n) ⊎ ((why : FileFault) × (e ≡ fault.File n why) × IfSome told (λ bytes. OpenFault bytes why) × IsOfBytes why × IsOfTail why))
+    (e ≡ fault.OutOfMemory) ⊎ ((e ≡ fault.SourceFailed n) ⊎ ((why : FileFault) × (e ≡ fault.File n why) × IfSome told (λ bytes. TailOpenFault bytes why) × IsOfBytes why × IsOfTail why))
 
 pub open_refused : {A : Type 0} (told : A → Option (List ℕ)) (sizes : List ℕ) (inputs : List A) (n : ℕ) (d : A) (ts : List Tail) (e : MergeFault)
     → n < length inputs → AreTailsOf (map told inputs) sizes n ts → AreGathered ts
@@ -90,7 +90,7 @@ open_refused told sizes inputs n d ts e lt a g (inr (inr h)) files same =
     let in_files : n < length files = omega (arith, lt, as_many told inputs files same) in
     inr (refused_at files n ts e in_files (a.opened files same) g (inl (
       h.0,
-      told_has told inputs n d (λ (bytes : List ℕ). OpenFault bytes h.0) lt h.2 files same,
+      told_has told inputs n d (λ (bytes : List ℕ). TailOpenFault bytes h.0) lt h.2 files same,
       h.1 ∙ ap (λ (k : ℕ). fault.File k h.0) (sym a.many),
     )))
 
@@ -110,12 +110,12 @@ next_refused told sizes inputs n d ts t e lt a g is next files same =
 
 pub open_counted : {A : Type 0} (failures : A → ℕ) (inputs : List A) (n : ℕ) (d y : A) (told : Option (List ℕ)) (e : MergeFault) → n < length inputs
     → NoTail n told e → (e ≡ fault.SourceFailed n → failures (get_or inputs n d) < failures y)
-    → IsCounted (map failures inputs) (map failures (set inputs n y)) e
-open_counted failures inputs n d y told e lt (inl is) rose = subst (IsCounted (map failures inputs) (map failures (set inputs n y))) (sym is) tt
+    → CountsFailure (map failures inputs) (map failures (set inputs n y)) e
+open_counted failures inputs n d y told e lt (inl is) rose = subst (CountsFailure (map failures inputs) (map failures (set inputs n y))) (sym is) tt
 open_counted failures inputs n d y told e lt (inr (inl is)) rose =
-    subst (IsCounted (map failures inputs) (map failures (set inputs n y))) (sym is) (index_rose failures inputs n d y lt (rose is))
+    subst (CountsFailure (map failures inputs) (map failures (set inputs n y))) (sym is) (index_rose failures inputs n d y lt (rose is))
 open_counted failures inputs n d y told e lt (inr (inr h)) rose =
-    subst (IsCounted (map failures inputs) (map failures (set inputs n y))) (sym h.1) h.3
+    subst (CountsFailure (map failures inputs) (map failures (set inputs n y))) (sym h.1) h.3
 
 -- ---- memory
 
@@ -123,8 +123,8 @@ pub no_memory : (e : MergeFault) → e ≡ fault.OutOfMemory → (told : List (O
     → IsAnswer files e
 no_memory e is told files same = inl (subst IsDeviceFault (sym is) tt)
 
-pub no_memory_counted : (old new : List ℕ) (e : MergeFault) → e ≡ fault.OutOfMemory → IsCounted old new e
-no_memory_counted old new e is = subst (IsCounted old new) (sym is) tt
+pub no_memory_counted : (old new : List ℕ) (e : MergeFault) → e ≡ fault.OutOfMemory → CountsFailure old new e
+no_memory_counted old new e is = subst (CountsFailure old new) (sym is) tt
 
 -- ---- names of faults
 
@@ -138,7 +138,7 @@ no_memory_named inputs n e lt is = let some : 0 < inputs = omega (arith, lt) in 
 
 -- of a tail that isn't found
 pub tail_unfound : (n : ℕ) (told : Option (List ℕ)) (why : FileFault) → (why ≡ file_fault.SourceFailed → ⊥) → (why ≡ file_fault.OutOfMemory → ⊥)
-    → (why ≡ file_fault.OutOfMemory) ⊎ ((why ≡ file_fault.SourceFailed) ⊎ IfSome told (λ bytes. OpenFault bytes why)) → (why ≡ file_fault.SourceFailed) ⊎ IsOfTail why
+    → (why ≡ file_fault.OutOfMemory) ⊎ ((why ≡ file_fault.SourceFailed) ⊎ IfSome told (λ bytes. TailOpenFault bytes why)) → (why ≡ file_fault.SourceFailed) ⊎ IsOfTail why
     → NoTail n told (fault.File n why)
 tail_unfound n told why source memory (inl is) named = absurd (memory is)
 tail_unfound n told why source memory (inr (inl is)) named = absurd (source is)

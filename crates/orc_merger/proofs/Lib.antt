@@ -1,22 +1,8 @@
 pub mod Placing
 pub mod Names
-pub mod Bits
 pub mod Limits
 pub mod Opened
-pub mod Standing
-pub mod Same
-pub mod Steps
 pub mod MergedLength
-pub mod Rows
-pub mod Deciding
-pub mod Refusing
-pub mod OneFault
-pub mod Back
-pub mod Cover
-pub mod Reordered
-pub mod Ordered
-pub mod Honest
-mod Examples
 pub mod CopiedParts
 pub mod BytesOut
 pub mod ValueCounts
@@ -28,4 +14,4 @@ pub mod NextTests
 pub mod Finished
 pub mod Together
 pub mod NextInput
-pub mod PastLimit
+pub mod AllOfBoth

@@ -1,8 +1,8 @@
 -- User metadata: each pair whose name is new.
-use Rattle.std.proofs.Common.{◌≡◌, ℕ, ◌⊎◌, inl, inr, List, [], ◌∷◌, ◌++◌, Bool, true, false, ◌==◌, refl, sym, ap, ◌∙◌, subst, arith}
+use Rattle.std.proofs.Common.{◌≡◌, ℕ, ◌⊎◌, inl, inr, List, [], ◌∷◌, Bool, true, false, ◌==◌, refl, sym, ap, ◌∙◌, subst, arith}
 use Rattle.std.specs.Prelude.{Contains, filter, not, cond, ◌&&◌, slice_index_or}
 use Rattle.std.specs.Cmp.Lexicographic.{pointwise, same_text}
-use Rattle.std.proofs.lemmas.List.Elements.{filter-append, Contains-append_right, Contains-append_cases}
+use Rattle.std.proofs.lemmas.List.Elements.{Contains-append_right, Contains-append_cases}
 use Rattle.orc_wire.specs.declared.footer.UserMetadataItem.{UserMetadataItem}
 use Rattle.orc_merger.specs.Merging.{same_name, without, distinct, Agree}
 
@@ -40,7 +40,7 @@ and_swap false false = refl
 
 -- ---- names
 
-without_twice : (p : UserMetadataItem) (xs : List UserMetadataItem) → without p (without p xs) ≡ without p xs
+pub without_twice : (p : UserMetadataItem) (xs : List UserMetadataItem) → without p (without p xs) ≡ without p xs
 without_twice p xs =
     let t : UserMetadataItem → Bool = λ q. not (same_name p q) in
     filter-filter t t xs ∙ filter_same (λ x. t x && t x) t (λ x. and_self (t x)) xs
@@ -68,36 +68,6 @@ distinct-without p [] = refl
 distinct-without p (q ∷ xs) =
     distinct_of p q xs (distinct-without p xs) (same_name p q) refl
     ∙ sym (filter_of (λ (x : UserMetadataItem). not (same_name p x)) true q (without q (distinct xs)))
-
-pub distinct-append_left : (xs ys : List UserMetadataItem) → distinct (distinct xs ++ ys) ≡ distinct (xs ++ ys)
-distinct-append_left [] ys = refl
-distinct-append_left (p ∷ xs) ys =
-    let t : UserMetadataItem → Bool = λ q. not (same_name p q) in
-    ap (λ (r : List UserMetadataItem). p ∷ r) (
-    sym (distinct-without p (without p (distinct xs) ++ ys))
-    ∙ ap distinct (filter-append t (without p (distinct xs)) ys ∙ ap (λ (r : List UserMetadataItem). r ++ without p ys) (without_twice p (distinct xs))
-    ∙ sym (filter-append t (distinct xs) ys))
-    ∙ distinct-without p (distinct xs ++ ys)
-    ∙ ap (without p) (distinct-append_left xs ys))
-
-pub distinct-distinct : (xs : List UserMetadataItem) → distinct (distinct xs) ≡ distinct xs
-distinct-distinct [] = refl
-distinct-distinct (p ∷ xs) =
-    ap (λ (r : List UserMetadataItem). p ∷ r) (ap (without p) (distinct-without p (distinct xs)) ∙ without_twice p (distinct (distinct xs))
-    ∙ ap (without p) (distinct-distinct xs))
-
-pub distinct-append_right : (xs ys : List UserMetadataItem) → distinct (xs ++ distinct ys) ≡ distinct (xs ++ ys)
-distinct-append_right [] ys = distinct-distinct ys
-distinct-append_right (p ∷ xs) ys = ap (λ (r : List UserMetadataItem). p ∷ without p r) (distinct-append_right xs ys)
-
--- what is new in two lists is told by what is new in each
-pub distinct_together : (xs ys us vs : List UserMetadataItem) → distinct xs ≡ distinct us → distinct ys ≡ distinct vs
-    → distinct (xs ++ ys) ≡ distinct (us ++ vs)
-distinct_together xs ys us vs e f =
-    let A : List UserMetadataItem → List UserMetadataItem → List UserMetadataItem = λ a b. distinct (a ++ b) in
-    sym (distinct-append_left xs ys) ∙ sym (distinct-append_right (distinct xs) ys)
-    ∙ ap (λ (a : List UserMetadataItem). distinct (a ++ distinct ys)) e ∙ ap (λ (b : List UserMetadataItem). distinct (distinct us ++ b)) f
-    ∙ distinct-append_right (distinct us) vs ∙ distinct-append_left us vs
 
 -- ---- elements
 

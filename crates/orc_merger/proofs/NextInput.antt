@@ -16,11 +16,11 @@ use Rattle.orc_merger.specs.declared.gathered.Lists.{Lists}
 use Rattle.orc_merger.specs.Merging.{placed, all_stripes, all_stats, all_pairs, merged, HasStatistics, IsLike, CanMerge, Agree}
 use Rattle.orc_merger.specs.Gathering.{pieces_in, pieces_of, IsOfKind, HasPairs}
 use Rattle.orc_merger.specs.Counts.{column_count}
-use Rattle.orc_merger.specs.Limits.{AreFew, AreFewTogether}
+use Rattle.orc_merger.specs.Limits.{AreFewInAll, AreFewTogether}
 use Rattle.orc_merger.specs.SoFar.{HasGathered, IsNext}
 use Rattle.orc_merger.proofs.Placing.{bytes-append, length-placed}
-use Rattle.orc_merger.proofs.Bits.{all-append}
 use Rattle.orc_merger.proofs.Together.{few_of_limits, limits_of_few}
+use Rattle.orc_values.proofs.Lists.{all_append}
 
 -- ---- the lists of one input more
 
@@ -70,7 +70,7 @@ pieces_push ts t = let e : 0 + length ts ≡ length ts = omega arith in pieces_f
 like_push : (first : Tail) (ts : List Tail) (t : Tail) → AllByRecursion (IsLike first) ts → IsOfKind first t → HasStatistics t
     → AllByRecursion (IsLike first) (ts ++ t ∷ [])
 like_push first ts t like k has =
-    all-append (IsLike first) ts (t ∷ []) like (record { schema = k.schema; version = k.version; stride = k.stride; other = k.other; statistics = has }, tt)
+    all_append (IsLike first) ts (t ∷ []) like (record { schema = k.schema; version = k.version; stride = k.stride; other = k.other; statistics = has }, tt)
 
 -- the pairs gathered are those of the inputs
 pub pairs_so_far : (first tail : Tail) (tails : List Tail) (number : ℕ) (lists : Lists) (g : Gathered) → IsNext first tails tail number lists g
@@ -113,7 +113,7 @@ pub next_few : (first tail : Tail) (tails : List Tail) (number : ℕ) (lists : L
     → AreFewTogether (length g.stripes.items + length lists.stripes.items) (g.end + stripes_length lists.stripes.items) (g.rows + lists.rows) (all_stats tails ++ lists.stripe_stats.items)
 next_few first tail tails number lists g n has within =
     let all : List Tail = tails ++ tail ∷ [] in
-    let few : AreFew all = few_of_limits first all (like_push first tails tail n.merges.alike n.kind has) within in
+    let few : AreFewInAll all = few_of_limits first all (like_push first tails tail n.merges.alike n.kind has) within in
     let old : length g.stripes.items ≡ length (all_stripes tails) = ap length n.gathered.stripes ∙ length-placed 3 (all_stripes tails) in
     let more : length lists.stripes.items ≡ length tail.stripes = ap length n.lists_are.stripes in
     let stripes : length (all_stripes all) ≡ length (all_stripes tails) + length tail.stripes = ap length (stripes_push tails tail) ∙ length-append (all_stripes tails) tail.stripes in
@@ -141,7 +141,7 @@ next_within first tail tails number lists g h n has now few =
     let stripes_few : length h.stripes.items ≤ 65536 = few.stripes_few in
     let bytes_few : h.end ≤ 1099511627779 = few.bytes_few in
     let rows_few : h.rows ≤ 1099511627776 = few.rows_few in
-    limits_of_few first all n.first_within (all-append IsWithinLimits tails (tail ∷ []) n.tails_within (n.tail_within, tt))
+    limits_of_few first all n.first_within (all_append IsWithinLimits tails (tail ∷ []) n.tails_within (n.tail_within, tt))
     (like_push first tails tail n.merges.alike n.kind has) (record {
       stripes_few = omega (arith, count, stripes_few);
       bytes_few = omega (arith, now.end, bytes_few);

@@ -16,24 +16,24 @@ use Rattle.orc_merger.specs.declared.fault.MergeFault.{MergeFault}
 use Rattle.orc_merger.specs.declared.fault.MergeFault.TheVariants as fault
 use Rattle.orc_merger.specs.Merging.{SameVersion, CanMerge, all_stats}
 use Rattle.orc_merger.specs.Faults.{Tested, NextFault, IsOfMerge}
-use Rattle.orc_merger.specs.Gathering.{bare, IsOfKind, KindFault, JoinFault}
+use Rattle.orc_merger.specs.Gathering.{without_joined, IsOfKind, KindFault, NextJoinFault}
 use Rattle.orc_merger.specs.SoFar.{HasGathered}
-use Rattle.orc_merger.specs.Inputs.{IsCounted}
-use Rattle.orc_merger.proofs.Bits.{all-append}
+use Rattle.orc_merger.specs.Inputs.{CountsFailure}
 use Rattle.orc_merger.proofs.Limits.{Counted, HasRoom, limits_of, room_of}
+use Rattle.orc_values.proofs.Lists.{all_append}
 
 -- ---- of its kind
 
-version_of_bare : (first t : Tail) → SameVersion (bare first) t → SameVersion first t
+version_of_bare : (first t : Tail) → SameVersion (without_joined first) t → SameVersion first t
 version_of_bare first t v = record { version = v.version; writer = v.writer; writer_version = v.writer_version }
 
-bare_version : (first t : Tail) → SameVersion first t → SameVersion (bare first) t
+bare_version : (first t : Tail) → SameVersion first t → SameVersion (without_joined first) t
 bare_version first t v = record { version = v.version; writer = v.writer; writer_version = v.writer_version }
 
 -- what is compared stands in the bare tail
-pub kind_of : (first kept t : Tail) → kept ≡ bare first → IsOfKind kept t → IsOfKind first t
+pub kind_of : (first kept t : Tail) → kept ≡ without_joined first → IsOfKind kept t → IsOfKind first t
 kind_of first kept t e kind =
-    let k : IsOfKind (bare first) t = subst (λ (x : Tail). IsOfKind x t) e kind in
+    let k : IsOfKind (without_joined first) t = subst (λ (x : Tail). IsOfKind x t) e kind in
     record { schema = k.schema; version = version_of_bare first t k.version; stride = k.stride; other = k.other }
 
 pub own_kind : (t : Tail) → IsOfKind t t
@@ -44,39 +44,39 @@ retold : {H K R S : Type 0} (fails e : MergeFault) → (H → K) → (K → H) �
 retold fails e to back rest (inl p) = inl (λ k. p.0 (back k), p.1)
 retold fails e to back rest (inr p) = inr (to p.0, rest p.1)
 
-pub kind_refused : (first kept : Tail) (rest : List Tail) (t : Tail) (n : ℕ) (e : MergeFault) → kept ≡ bare first → length (first ∷ rest) ≡ n
+pub kind_refused : (first kept : Tail) (rest : List Tail) (t : Tail) (n : ℕ) (e : MergeFault) → kept ≡ without_joined first → length (first ∷ rest) ≡ n
     → KindFault n kept t e → NextFault (first ∷ rest) t e
 kind_refused first kept rest t n e same many k =
-    let bared : KindFault n (bare first) t e = subst (λ (x : Tail). KindFault n x t e) same k in
-    let at : KindFault (length (first ∷ rest)) (bare first) t e = subst (λ (i : ℕ). KindFault i (bare first) t e) (sym many) bared in
+    let bared : KindFault n (without_joined first) t e = subst (λ (x : Tail). KindFault n x t e) same k in
+    let at : KindFault (length (first ∷ rest)) (without_joined first) t e = subst (λ (i : ℕ). KindFault i (without_joined first) t e) (sym many) bared in
     retold _ e (λ h. h) (λ h. h)
     (retold _ e (version_of_bare first t) (bare_version first t)
     (retold _ e (λ h. h) (λ h. h)
     (retold _ e (λ h. h) (λ h. h) (λ h. absurd h)))) at
 
 pub join_refused : (first : Tail) (rest : List Tail) (t : Tail) (n : ℕ) (e : MergeFault) → length (first ∷ rest) ≡ n → IsOfKind first t
-    → JoinFault n first t (first ∷ (rest ++ t ∷ [])) e → NextFault (first ∷ rest) t e
+    → NextJoinFault n first t (first ∷ (rest ++ t ∷ [])) e → NextFault (first ∷ rest) t e
 join_refused first rest t n e many k j =
-    let at : JoinFault (length (first ∷ rest)) first t (first ∷ (rest ++ t ∷ [])) e =
-    subst (λ (i : ℕ). JoinFault i first t (first ∷ (rest ++ t ∷ [])) e) (sym many) j in
+    let at : NextJoinFault (length (first ∷ rest)) first t (first ∷ (rest ++ t ∷ [])) e =
+    subst (λ (i : ℕ). NextJoinFault i first t (first ∷ (rest ++ t ∷ [])) e) (sym many) j in
     inr (k.schema, inr (k.version, inr (k.stride, inr (k.other, at))))
 
-pub first_refused : (t : Tail) (e : MergeFault) → JoinFault 0 t t (t ∷ []) e → NextFault [] t e
+pub first_refused : (t : Tail) (e : MergeFault) → NextJoinFault 0 t t (t ∷ []) e → NextFault [] t e
 first_refused t e j = let k = own_kind t in inr (k.schema, inr (k.version, inr (k.stride, inr (k.other, j))))
 
 -- ---- no device
 
-test_counted : {H R : Type 0} (old new : List ℕ) (fails e : MergeFault) → IsCounted old new fails → (R → IsCounted old new e) → Tested H fails e R
-    → IsCounted old new e
-test_counted old new fails e c rest (inl p) = subst (IsCounted old new) (sym p.1) c
+test_counted : {H R : Type 0} (old new : List ℕ) (fails e : MergeFault) → CountsFailure old new fails → (R → CountsFailure old new e) → Tested H fails e R
+    → CountsFailure old new e
+test_counted old new fails e c rest (inl p) = subst (CountsFailure old new) (sym p.1) c
 test_counted old new fails e c rest (inr p) = rest p.1
 
-pub kind_counted : (old new : List ℕ) (first t : Tail) (n : ℕ) (e : MergeFault) → KindFault n first t e → IsCounted old new e
+pub kind_counted : (old new : List ℕ) (first t : Tail) (n : ℕ) (e : MergeFault) → KindFault n first t e → CountsFailure old new e
 kind_counted old new first t n e k =
     test_counted old new (fault.SchemaDiffers n) e tt (test_counted old new (fault.VersionDiffers n) e tt
     (test_counted old new (fault.StrideDiffers n) e tt (test_counted old new (fault.OtherFooterFields n) e tt (λ h. absurd h)))) k
 
-pub join_counted : (old new : List ℕ) (first t : Tail) (ts : List Tail) (n : ℕ) (e : MergeFault) → JoinFault n first t ts e → IsCounted old new e
+pub join_counted : (old new : List ℕ) (first t : Tail) (ts : List Tail) (n : ℕ) (e : MergeFault) → NextJoinFault n first t ts e → CountsFailure old new e
 join_counted old new first t ts n e j =
     test_counted old new (fault.UserMetadataConflict n) e tt (test_counted old new (fault.NoStripeStatistics n) e tt
     (test_counted old new (fault.Limit n) e tt (λ h. absurd h))) j
@@ -92,7 +92,7 @@ kind_named inputs first t n e later lt k =
     test_named inputs (fault.SchemaDiffers n) e (later, lt) (test_named inputs (fault.VersionDiffers n) e (later, lt)
     (test_named inputs (fault.StrideDiffers n) e (later, lt) (test_named inputs (fault.OtherFooterFields n) e (later, lt) (λ h. absurd h)))) k
 
-pub join_named : (inputs : ℕ) (first t : Tail) (ts : List Tail) (n : ℕ) (e : MergeFault) → n < inputs → JoinFault n first t ts e → IsOfMerge inputs e
+pub join_named : (inputs : ℕ) (first t : Tail) (ts : List Tail) (n : ℕ) (e : MergeFault) → n < inputs → NextJoinFault n first t ts e → IsOfMerge inputs e
 join_named inputs first t ts n e lt j =
     test_named inputs (fault.UserMetadataConflict n) e lt (test_named inputs (fault.NoStripeStatistics n) e lt
     (test_named inputs (fault.Limit n) e lt (λ h. absurd h))) j
@@ -143,7 +143,7 @@ kinds_of s c (xs ∷ stats) a =
     let z : 0 + c ≡ c = omega arith in
     let here : AllByRecursion (IsKind s c) (take 1 (drop c xs)) =
     subst (λ (k : ℕ). AllByRecursion (IsKind s k) (take 1 (drop c xs))) z (kind_from s 0 c xs a.0.kinds) in
-    all-append (IsKind s c) (take 1 (drop c xs)) (column_stats c stats) here (kinds_of s c stats a.1)
+    all_append (IsKind s c) (take 1 (drop c xs)) (column_stats c stats) here (kinds_of s c stats a.1)
 
 -- each column's statistics of a merged tail are of its kind
 pub merged_kinds : (first : Tail) (ts : List Tail) (c : ℕ) → CanMerge first ts

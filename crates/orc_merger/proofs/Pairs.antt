@@ -6,7 +6,7 @@ use Rattle.std.specs.Cmp.Lexicographic.{same_text, other_text}
 use Rattle.std.proofs.lemmas.List.Elements.{filter-append, Contains-append_left, Contains-append_right, Contains-append_cases}
 use Rattle.orc_wire.specs.declared.footer.UserMetadataItem.{UserMetadataItem}
 use Rattle.orc_merger.specs.Merging.{same_name, without, distinct, Agree}
-use Rattle.orc_merger.specs.PairPlaces.{ArePlaces}
+use Rattle.orc_merger.specs.PairPlaces.{ArePairPlaces}
 use Rattle.orc_merger.specs.Gathering.{HasPairs}
 use Rattle.orc_merger.specs.declared.user_pairs.UserPairs.{UserPairs}
 use Rattle.orc_merger.proofs.Names.{distinct-without, in_cons, in_head, in_tail, in_distinct, into_distinct}
@@ -62,7 +62,7 @@ agree_push xs p a w = λ q r c d n. elim (Contains-append_cases xs (p ∷ []) q 
 
 -- no pair that is kept has the name, and this one is put behind them
 pub pairs_new : (before : List UserMetadataItem) (old new : UserPairs) (p : UserMetadataItem) → HasPairs before old → All (λ (q : UserMetadataItem). q.name ≢ p.name) old.pairs.items
-    → new.pairs.items ≡ old.pairs.items ++ p ∷ [] → ArePlaces new.pairs.items new.places → HasPairs (before ++ p ∷ []) new
+    → new.pairs.items ≡ old.pairs.items ++ p ∷ [] → ArePairPlaces new.pairs.items new.places → HasPairs (before ++ p ∷ []) new
 pairs_new before old new p h all more places =
     let kept : List UserMetadataItem = old.pairs.items in
     let none : (r : UserMetadataItem) → Contains before r → r.name ≡ p.name → ⊥ = λ r c n.

@@ -7,15 +7,14 @@ use Rattle.std.proofs.lemmas.List.Concat.{flat_map-append}
 use Rattle.std.proofs.lemmas.List.Elements.{All-from_recursion}
 use Rattle.orc_wire.specs.declared.stripe_info.StripeInfo.{StripeInfo}
 use Rattle.orc_io.specs.Devices.{bytes_at}
-use Rattle.orc_tail.specs.Stripes.{stripe_length, AllBefore}
-use Rattle.orc_file.specs.FileRows.{stripe_bytes}
+use Rattle.orc_tail.specs.Stripes.{stripe_length, AllBefore, stripe_bytes}
 use Rattle.orc_tail.specs.declared.tail.Tail.{Tail}
 use Rattle.orc_merger.specs.declared.copying.Piece.{Piece}
 use Rattle.orc_merger.specs.Merging.{AreOpened, bodies, stripes_of}
 use Rattle.orc_merger.specs.Copies.{piece_bytes, pieces_bytes}
 use Rattle.orc_merger.specs.Gathering.{pieces_in, pieces_of}
-use Rattle.orc_merger.specs.Inputs.{AreWithin}
-use Rattle.orc_merger.proofs.Bits.{all-append}
+use Rattle.orc_merger.specs.Inputs.{EndWithinInputs}
+use Rattle.orc_values.proofs.Lists.{all_append}
 
 -- ---- their bytes
 
@@ -61,19 +60,19 @@ within_one sizes i n (s ∷ ss) e b =
     let le : s.offset + stripe_length s ≤ slice_index sizes i = omega (arith, e, here) in
     (le, within_one sizes i n ss e b.1)
 
-within_rest : (front rest : List ℕ) (i : ℕ) (ts : List Tail) → length front ≡ i → AreWithin rest ts
+within_rest : (front rest : List ℕ) (i : ℕ) (ts : List Tail) → length front ≡ i → EndWithinInputs rest ts
     → AllByRecursion (IsWithin (front ++ rest)) (pieces_of i ts)
 within_rest front rest i [] e w = tt
 within_rest front [] i (t ∷ ts) e w = absurd w
 within_rest front (n ∷ ns) i (t ∷ ts) e w =
     let longer : length (front ++ n ∷ []) ≡ i + 1 = length_push front n ∙ ap (λ (k : ℕ). k + 1) e in
-    all-append (IsWithin (front ++ n ∷ ns)) (pieces_in i t.stripes) (pieces_of (i + 1) ts)
+    all_append (IsWithin (front ++ n ∷ ns)) (pieces_in i t.stripes) (pieces_of (i + 1) ts)
     (within_one (front ++ n ∷ ns) i n t.stripes (get_or_at front n ns 0 i e) w.0)
     (subst (λ (z : List ℕ). AllByRecursion (IsWithin z) (pieces_of (i + 1) ts)) (append_assoc front (n ∷ []) ns)
     (within_rest (front ++ n ∷ []) ns (i + 1) ts longer w.1))
 
 -- each piece stands within its input
-pub pieces_within : (sizes : List ℕ) (ts : List Tail) → AreWithin sizes ts → All (λ (p : Piece). p.offset + p.len ≤ slice_index sizes p.input) (pieces_of 0 ts)
+pub pieces_within : (sizes : List ℕ) (ts : List Tail) → EndWithinInputs sizes ts → All (λ (p : Piece). p.offset + p.len ≤ slice_index sizes p.input) (pieces_of 0 ts)
 pieces_within sizes ts w = All-from_recursion (IsWithin sizes) (pieces_of 0 ts) (within_rest [] sizes 0 ts refl w)
 
 inputs_one : (n i : ℕ) (ss : List StripeInfo) → i < n → AllByRecursion (λ (p : Piece). p.input < n) (pieces_in i ss)
@@ -83,7 +82,7 @@ inputs_one n i (s ∷ ss) lt = (lt, inputs_one n i ss lt)
 inputs_rest : (n i : ℕ) (ts : List Tail) → i + length ts ≤ n → AllByRecursion (λ (p : Piece). p.input < n) (pieces_of i ts)
 inputs_rest n i [] le = tt
 inputs_rest n i (t ∷ ts) le =
-    all-append (λ (p : Piece). p.input < n) (pieces_in i t.stripes) (pieces_of (i + 1) ts) (inputs_one n i t.stripes (omega (arith, le)))
+    all_append (λ (p : Piece). p.input < n) (pieces_in i t.stripes) (pieces_of (i + 1) ts) (inputs_one n i t.stripes (omega (arith, le)))
     (inputs_rest n (i + 1) ts (omega (arith, le)))
 
 -- and of an input that there is

@@ -11,7 +11,7 @@ use Rattle.orc_tail.specs.Images.{IsWithinLimits}
 use Rattle.orc_tail.specs.declared.tail.Tail.{Tail}
 use Rattle.orc_merger.specs.Merging.{all_stripes, all_stats, merged, IsLike}
 use Rattle.orc_merger.specs.Counts.{column_count}
-use Rattle.orc_merger.specs.Limits.{AreFew}
+use Rattle.orc_merger.specs.Limits.{AreFewInAll}
 use Rattle.orc_merger.proofs.ValueCounts.{count_at, count_above}
 use Rattle.orc_merger.proofs.Limits.{HasRoom, Counted, limits_of, room_of, statistics_of_merged}
 
@@ -53,7 +53,7 @@ few_values s stats wide all c = elim (below_or_not c (width s)) [
   | inr le ↦ let none = no_count (width s) c stats le wide in omega (arith, none)
 ]
 
-room_of_few : (first : Tail) (ts : List Tail) → AreFew ts → HasRoom first ts
+room_of_few : (first : Tail) (ts : List Tail) → AreFewInAll ts → HasRoom first ts
 room_of_few first ts few =
     let b : 3 + stripes_length (all_stripes ts) ≤ 1099511627779 = few.bytes_few in
     record {
@@ -63,7 +63,7 @@ room_of_few first ts few =
       counts = counted_of first.schema (all_stats ts) few.values_few 0 (width first.schema);
     }
 
-few_of_room : (first : Tail) (ts : List Tail) → AllByRecursion (IsLike first) ts → HasRoom first ts → AreFew ts
+few_of_room : (first : Tail) (ts : List Tail) → AllByRecursion (IsLike first) ts → HasRoom first ts → AreFewInAll ts
 few_of_room first ts like room =
     let b : stripes_length (all_stripes ts) ≤ 1099511627776 = room.bytes in
     record {
@@ -74,9 +74,9 @@ few_of_room first ts like room =
     }
 
 -- the merged tail is within the limits exactly where the inputs have few stripes, bytes, rows and values together
-pub few_of_limits : (first : Tail) (ts : List Tail) → AllByRecursion (IsLike first) ts → IsWithinLimits (merged first ts) → AreFew ts
+pub few_of_limits : (first : Tail) (ts : List Tail) → AllByRecursion (IsLike first) ts → IsWithinLimits (merged first ts) → AreFewInAll ts
 few_of_limits first ts like within = few_of_room first ts like (room_of first ts within)
 
-pub limits_of_few : (first : Tail) (ts : List Tail) → IsWithinLimits first → AllByRecursion IsWithinLimits ts → AllByRecursion (IsLike first) ts → AreFew ts
+pub limits_of_few : (first : Tail) (ts : List Tail) → IsWithinLimits first → AllByRecursion IsWithinLimits ts → AllByRecursion (IsLike first) ts → AreFewInAll ts
     → IsWithinLimits (merged first ts)
 limits_of_few first ts f a like few = limits_of first ts f a like (room_of_few first ts few)

@@ -1,7 +1,7 @@
 -- Why files are not merged: input by input, for each the first test that fails (own).
 use Rattle.std.specs.Prelude.{◌≡◌, ◌≢◌, ◌⊎◌, ℕ, ◌<◌, List, [], ◌∷◌, ◌++◌, length}
 use Rattle.orc_tail.specs.Tests.{AreAlike}
-use Rattle.orc_tail.specs.Tails.{IsTail, OpenFault, IsOfTail}
+use Rattle.orc_tail.specs.Tails.{IsTail, TailOpenFault, IsOfTail}
 use Rattle.orc_tail.specs.Images.{IsWithinLimits}
 use Rattle.orc_tail.specs.declared.tail.Tail.{Tail}
 use Rattle.orc_tail.specs.declared.fault.FileFault.{FileFault}
@@ -40,7 +40,7 @@ AreGathered (first ∷ rest) = CanMerge first (first ∷ rest)
 -- this input is no file, or is refused behind those before it
 abbrev pub InputFault : List Tail → List ℕ → MergeFault → Type 0
 InputFault before bytes fault =
-    ((why : FileFault) × OpenFault bytes why × (fault ≡ File (length before) why))
+    ((why : FileFault) × TailOpenFault bytes why × (fault ≡ File (length before) why))
     ⊎ ((tail : Tail) × IsTail bytes tail × NextFault before tail fault)
 
 -- the inputs before this one are gathered, and this one is refused
@@ -55,8 +55,8 @@ pub record IsRefusedAt (inputs : List (List ℕ)) (fault : MergeFault) : Type 0 
   pub fails : InputFault tails bytes fault
 
 -- there is no input, or one of them is the first that is refused
-abbrev pub IsRefused : List (List ℕ) → MergeFault → Type 0
-IsRefused inputs fault = ((inputs ≡ []) × (fault ≡ NoInput)) ⊎ IsRefusedAt inputs fault
+abbrev pub IsMergeRefused : List (List ℕ) → MergeFault → Type 0
+IsMergeRefused inputs fault = ((inputs ≡ []) × (fault ≡ NoInput)) ⊎ IsRefusedAt inputs fault
 
 -- two faults are one, but that what is wrong with a file's types may be said in several ways
 abbrev pub AreOne : MergeFault → MergeFault → Type 0

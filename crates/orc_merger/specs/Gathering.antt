@@ -12,7 +12,7 @@ use Rattle.orc_merger.specs.declared.fault.MergeFault.TheVariants.{SchemaDiffers
 use Rattle.orc_merger.specs.declared.fault.MergeFault.TheVariants.{UserMetadataConflict, NoStripeStatistics, Limit}
 use Rattle.orc_merger.specs.Merging.{Agree, distinct, all_pairs, merged, SameVersion, HasStatistics}
 use Rattle.orc_merger.specs.Faults.{Tested}
-use Rattle.orc_merger.specs.PairPlaces.{ArePlaces}
+use Rattle.orc_merger.specs.PairPlaces.{ArePairPlaces}
 
 -- where the stripes of the input with that number stand in it
 abbrev pub pieces_in : ℕ → List StripeInfo → List Piece
@@ -27,7 +27,7 @@ pieces_of i (t ∷ ts) = pieces_in i t.stripes ++ pieces_of (i + 1) ts
 pub record HasPairs (all : List UserMetadataItem) (kept : UserPairs) : Type 0 where
   pub agree : Agree all
   pub kept_are : kept.pairs.items ≡ distinct all
-  pub places : ArePlaces kept.pairs.items kept.places
+  pub places : ArePairPlaces kept.pairs.items kept.places
 
 -- of one schema, version and stride, with the same other footer fields
 pub record IsOfKind (first tail : Tail) : Type 0 where
@@ -45,12 +45,12 @@ KindFault i first tail fault =
     Tested (tail.other ≡ first.other) (OtherFooterFields i) fault ⊥)))
 
 -- the tests of the next input that ask of all of them together, after those of its kind
-abbrev pub JoinFault : ℕ → Tail → Tail → List Tail → MergeFault → Type 0
-JoinFault i first tail all fault =
+abbrev pub NextJoinFault : ℕ → Tail → Tail → List Tail → MergeFault → Type 0
+NextJoinFault i first tail all fault =
     Tested (Agree (all_pairs all)) (UserMetadataConflict i) fault (
     Tested (HasStatistics tail) (NoStripeStatistics i) fault (
     Tested (IsWithinLimits (merged first all)) (Limit i) fault ⊥))
 
 -- a tail without what is joined
-abbrev pub bare : Tail → Tail
-bare tail = record tail { stripes = []; stripe_stats = []; user = [] }
+abbrev pub without_joined : Tail → Tail
+without_joined tail = record tail { stripes = []; stripe_stats = []; user = [] }

@@ -12,16 +12,16 @@ use Rattle.orc_merger.specs.Faults.{IsOfBytes}
 use Rattle.orc_merger.specs.SoFar.{HasGathered}
 
 -- the stripes of each of these tails end within its input, of these sizes
-abbrev pub AreWithin : List ℕ → List Tail → Type 0
-AreWithin sizes [] = Unit {0}
-AreWithin [] (t ∷ ts) = ⊥
-AreWithin (n ∷ sizes) (t ∷ ts) = AllBefore n t.stripes × AreWithin sizes ts
+abbrev pub EndWithinInputs : List ℕ → List Tail → Type 0
+EndWithinInputs sizes [] = Unit {0}
+EndWithinInputs [] (t ∷ ts) = ⊥
+EndWithinInputs (n ∷ sizes) (t ∷ ts) = AllBefore n t.stripes × EndWithinInputs sizes ts
 
 -- the tails of the first inputs, so many of those that tell this and have these sizes, which nothing speaks against
 pub record AreTailsOf (told : List (Option (List ℕ))) (sizes : List ℕ) (number : ℕ) (tails : List Tail) : Type 0 where
   pub many : length tails ≡ number
   pub limits : AllByRecursion IsWithinLimits tails
-  pub within : AreWithin sizes tails
+  pub within : EndWithinInputs sizes tails
   pub opened : (files : List (List ℕ)) → told ≡ map Some files → AreOpened (take number files) tails
 
 -- the first inputs are gathered, so many of those that tell this and have these sizes
@@ -33,8 +33,8 @@ pub record IsGatheredOf (told : List (Option (List ℕ))) (sizes : List ℕ) (nu
   pub gathered : HasGathered first (first ∷ rest) g
 
 -- a fault of a source comes where its count of failures rose, none is the output's, and an input's is its bytes'
-abbrev pub IsCounted : List ℕ → List ℕ → MergeFault → Type 0
-IsCounted old new (File i e) = IsOfBytes e
-IsCounted old new (SourceFailed i) = slice_index old i < slice_index new i
-IsCounted old new WriteFailed = ⊥
-IsCounted old new _ = Unit {0}
+abbrev pub CountsFailure : List ℕ → List ℕ → MergeFault → Type 0
+CountsFailure old new (File i e) = IsOfBytes e
+CountsFailure old new (SourceFailed i) = slice_index old i < slice_index new i
+CountsFailure old new WriteFailed = ⊥
+CountsFailure old new _ = Unit {0}

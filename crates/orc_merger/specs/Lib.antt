@@ -1,6 +1,5 @@
 pub mod Merging
 pub mod Faults
-pub mod Grouping
 pub mod Copies
 pub mod Counts
 pub mod PairPlaces

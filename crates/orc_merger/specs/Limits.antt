@@ -14,7 +14,7 @@ pub record AreFewTogether (stripes end rows : ℕ) (stats : List (List Stat)) : 
   pub values_few : (c : ℕ) → column_count c stats ≤ 2 ^ 62
 
 -- the stripes, bytes, rows and values of inputs with these tails, together
-abbrev pub AreFew : List Tail → Type 0
-AreFew tails =
+abbrev pub AreFewInAll : List Tail → Type 0
+AreFewInAll tails =
     AreFewTogether (length (all_stripes tails)) (3 + stripes_length (all_stripes tails))
     (sum_by (λ (t : Tail). t.rows) tails) (all_stats tails)

@@ -7,8 +7,7 @@ use Rattle.orc_wire.specs.declared.stripe_info.StripeInfo.{StripeInfo}
 use Rattle.orc_wire.specs.declared.footer.UserMetadataItem.{UserMetadataItem}
 use Rattle.orc_values.specs.Shapes.{width}
 use Rattle.orc_stats.specs.declared.stat.Stat.{Stat}
-use Rattle.orc_tail.specs.Stripes.{stripe_length}
-use Rattle.orc_file.specs.FileRows.{stripe_bytes}
+use Rattle.orc_tail.specs.Stripes.{stripe_length, stripe_bytes}
 use Rattle.orc_tail.specs.Tails.{IsTail}
 use Rattle.orc_tail.specs.Images.{image, IsWithinLimits}
 use Rattle.orc_tail.specs.Statistics.{file_stats}

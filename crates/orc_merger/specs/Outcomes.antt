@@ -4,12 +4,12 @@ use Rattle.orc_io.specs.Devices.{appended}
 use Rattle.orc_tail.specs.declared.tail.Tail.{Tail}
 use Rattle.orc_merger.specs.declared.fault.MergeFault.{MergeFault}
 use Rattle.orc_merger.specs.Merging.{IsMerge}
-use Rattle.orc_merger.specs.Faults.{IsRefused, IsDeviceFault}
+use Rattle.orc_merger.specs.Faults.{IsMergeRefused, IsDeviceFault}
 use Rattle.orc_merger.specs.Copies.{WroteSome}
 
 -- where no device failed, the inputs are refused for this fault
 abbrev pub IsAnswer : List (List ℕ) → MergeFault → Type 0
-IsAnswer files fault = IsDeviceFault fault ⊎ IsRefused files fault
+IsAnswer files fault = IsDeviceFault fault ⊎ IsMergeRefused files fault
 
 -- the merged file went out, and its length fits 64 bits
 pub record WroteMerge (files : List (List ℕ)) (tail : Tail) (old new : Option (List ℕ)) : Type 0 where

@@ -16,6 +16,6 @@ abbrev pub IsNamedAt : List UserMetadataItem → List ℕ → ℕ → Type 0
 IsNamedAt pairs name i = (i < length pairs) × HoldsAt (λ (p : UserMetadataItem). p.name ≡ name) pairs i
 
 -- For each pair's name the map has a place, and at the place that it has for a name stands a pair of this name.
-pub record ArePlaces {Y : Type 0} (pairs : List UserMetadataItem) (places : BTreeMap (Vec ℕ Y) ℕ) : Type 0 where
+pub record ArePairPlaces {Y : Type 0} (pairs : List UserMetadataItem) (places : BTreeMap (Vec ℕ Y) ℕ) : Type 0 where
   pub each : (p : UserMetadataItem) → Contains pairs p → IsSome (place_of places p.name)
   pub found : (name : List ℕ) (i : ℕ) → place_of places name ≡ Some i → IsNamedAt pairs name i

@@ -6,7 +6,7 @@ ghost use Rattle.orc_tail.specs.Layout.{magic};
 ghost use Rattle.orc_merger.specs.Copies.{Copied, CopiedSome, WroteSome, IsLastOfInput};
 ghost use Rattle.orc_merger.specs.Copies.{piece_at, piece_bytes, pieces_bytes};
 
-use orc_file::{Sink, Source, write_all};
+use orc_io::{Sink, Source, write_all};
 
 /// Which device failed while bytes were copied.
 #[derive(Clone, Copy)]

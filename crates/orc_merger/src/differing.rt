@@ -5,7 +5,7 @@ ghost use Rattle.orc_merger.specs.Merging.{SameVersion};
 ghost use Rattle.orc_merger.specs.Gathering.{IsOfKind, KindFault};
 
 use crate::fault::MergeFault;
-use orc_file::Tail;
+use orc_tail::Tail;
 use orc_types::Schema;
 
 /// Whether two schemas are equal in each part.

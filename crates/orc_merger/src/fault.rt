@@ -2,7 +2,7 @@
 ghost use Rattle.std.specs.Prelude.{◌≡◌};
 ghost use Rattle.orc_merger.specs.declared.fault.MergeFault.TheVariants as fault;
 
-use orc_file::FileFault;
+use orc_tail::FileFault;
 use std::alloc::{AllocError, AllocFailed};
 use thiserror::Error;
 

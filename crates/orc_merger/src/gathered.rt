@@ -12,7 +12,7 @@ ghost use Rattle.orc_tail.specs.declared.tail.Tail.{Tail};
 ghost use Rattle.orc_merger.specs.Merging.{placed, merged, CanMerge};
 ghost use Rattle.orc_merger.specs.Counts.{AreCounts};
 ghost use Rattle.orc_merger.specs.Limits.{AreFewTogether};
-ghost use Rattle.orc_merger.specs.Gathering.{bare, pieces_in, pieces_of, JoinFault};
+ghost use Rattle.orc_merger.specs.Gathering.{without_joined, pieces_in, pieces_of, NextJoinFault};
 ghost use Rattle.orc_merger.specs.JoinedLists.{AreListsOf};
 ghost use Rattle.orc_merger.specs.SoFar.{HasGathered, IsNext};
 
@@ -21,8 +21,8 @@ use crate::fault::MergeFault;
 use crate::stripe_places::{add_pieces, place_stripes};
 use crate::user_pairs::UserPairs;
 use crate::value_counts::{add_counts, are_few};
-use orc_file::{MOST_BYTES, MOST_ROWS, MOST_STRIPES, Tail, file_statistics};
 use orc_stats::Stat;
+use orc_tail::{MOST_BYTES, MOST_ROWS, MOST_STRIPES, Tail, file_statistics};
 use orc_wire::{Items, StripeInfo, UserMetadataItem};
 use std::alloc::{AllocError, Global};
 use std::mem;
@@ -50,7 +50,7 @@ fn taken<T: Drop>(alloc: Global, items: &mut Items<T>) -> Vec<T>
 /// Takes of a tail what is joined. It has no stripes, no statistics of stripes and no pairs then.
 pub(crate) fn take_lists(alloc: Global, tail: &mut Tail) -> Lists
     ensures lists { AreListsOf tail.old result }
-    ensures left { tail.new ≡ bare tail.old }
+    ensures left { tail.new ≡ without_joined tail.old }
 {
     Lists {
         stripes: taken(alloc, &mut tail.stripes),
@@ -108,7 +108,7 @@ pub(crate) struct Gathered {
 impl Gathered {
     /// Nothing yet, with what the merged file has of the first input.
     pub fn new(alloc: Global, first: Tail) -> Gathered
-        ensures { (tail : Tail) → first ≡ bare tail → HasGathered tail [] result }
+        ensures { (tail : Tail) → first ≡ without_joined tail → HasGathered tail [] result }
     {
         Gathered {
             first,
@@ -183,7 +183,7 @@ impl Gathered {
             → CanMerge first (tails ++ tail ∷ [])) }
         ensures fault { IfErr result (λ e. (e ≡ fault.OutOfMemory)
             ⊎ ((first tail : Tail) (tails : List Tail) → IsNext first tails tail number lists self.old
-            → JoinFault number first tail (tails ++ tail ∷ []) e)) }
+            → NextJoinFault number first tail (tails ++ tail ∷ []) e)) }
     {
         let Lists {
             stripes,

@@ -3,7 +3,7 @@ ghost use Rattle.std.specs.Prelude.{◌≡◌, ◌+◌, ◌<◌, ◌≤◌, ◌�
 ghost use Rattle.orc_io.specs.Leaves.{LeavesSource};
 ghost use Rattle.orc_tail.specs.Layout.{magic};
 ghost use Rattle.orc_tail.specs.Stripes.{IsLaid, AllBefore};
-ghost use Rattle.orc_tail.specs.Tails.{IsTail, OpenFault, IsOfTail};
+ghost use Rattle.orc_tail.specs.Tails.{IsTail, TailOpenFault, IsOfTail};
 ghost use Rattle.orc_tail.specs.Images.{IsWithinLimits, tail_text};
 ghost use Rattle.orc_tail.specs.declared.fault.FileFault.{FileFault};
 ghost use Rattle.orc_merger.specs.declared.fault.MergeFault.TheVariants as fault;
@@ -11,13 +11,14 @@ ghost use Rattle.orc_merger.specs.Merging.{IsMerge};
 ghost use Rattle.orc_merger.specs.Faults.{IsOfBytes, IsOfMerge};
 ghost use Rattle.orc_merger.specs.Copies.{pieces_bytes};
 ghost use Rattle.orc_merger.specs.Outcomes.{IsAnswer};
-ghost use Rattle.orc_merger.specs.Inputs.{IsGatheredOf, IsCounted};
+ghost use Rattle.orc_merger.specs.Inputs.{IsGatheredOf, CountsFailure};
 
 use crate::copying::Piece;
 use crate::differing::compare;
 use crate::fault::MergeFault;
 use crate::gathered::{Gathered, take_lists};
-use orc_file::{FileFault, Source, Tail, read_tail};
+use orc_io::Source;
+use orc_tail::{FileFault, Tail, read_tail};
 use std::alloc::Global;
 
 /// The tail of the input with this number, which rests then.
@@ -30,7 +31,7 @@ fn tail_of<S: Source>(alloc: Global, number: usize, input: &mut S) -> Result<Tai
         ⊎ ((e ≡ fault.SourceFailed number)
         ⊎ ((why : FileFault)
         × (e ≡ fault.File number why)
-        × IfSome (S.told input.old) (λ bytes. OpenFault bytes why)
+        × IfSome (S.told input.old) (λ bytes. TailOpenFault bytes why)
         × IsOfBytes why × IsOfTail why))) }
     ensures source { LeavesSource S.told S.size S.failures (fault.SourceFailed number) (λ e. e ≡ fault.OutOfMemory)
         input.old input.new result }
@@ -54,7 +55,7 @@ fn gather_first<S: Source>(alloc: Global, inputs: &mut [S]) -> Result<Gathered, 
 
     ensures refused { IfErr result (λ e. (files : List (List ℕ))
         → map S.told inputs.old ≡ map Some files → IsAnswer files e) }
-    ensures counted { IfErr result (λ e. IsCounted (map S.failures inputs.old) (map S.failures inputs.new) e) }
+    ensures counted { IfErr result (λ e. CountsFailure (map S.failures inputs.old) (map S.failures inputs.new) e) }
     ensures named { IfErr result (λ e. IsOfMerge (length inputs.old) e) }
     ensures kept { OnOk result (map S.failures inputs.new ≡ map S.failures inputs.old) }
     ensures memory { IsErrOf result MergeFault.OutOfMemory → map S.failures inputs.new ≡ map S.failures inputs.old }
@@ -82,7 +83,7 @@ fn gather_next<S: Source>(
 
     ensures refused { IfErr result (λ e. (files : List (List ℕ))
         → map S.told inputs.old ≡ map Some files → IsAnswer files e) }
-    ensures counted { IfErr result (λ e. IsCounted (map S.failures inputs.old) (map S.failures inputs.new) e) }
+    ensures counted { IfErr result (λ e. CountsFailure (map S.failures inputs.old) (map S.failures inputs.new) e) }
     ensures named { IfErr result (λ e. IsOfMerge (length inputs.old) e) }
     ensures kept { OnOk result (map S.failures inputs.new ≡ map S.failures inputs.old) }
     ensures memory { IsErrOf result MergeFault.OutOfMemory → map S.failures inputs.new ≡ map S.failures inputs.old }

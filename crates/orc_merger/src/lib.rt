@@ -1,4 +1,4 @@
-//! Joins files whose tails agree, stripe by stripe, and the laws of what it writes.
+//! Joins files whose tails agree, stripe by stripe.
 #![tactic(auto)]
 
 mod copying;
@@ -6,12 +6,10 @@ mod differing;
 mod fault;
 mod gathered;
 mod gathering;
-pub mod laws;
 mod merging;
 mod stripe_places;
 mod user_pairs;
 mod value_counts;
 
 pub use fault::MergeFault;
-pub use laws::{grouping, orders, outcomes};
 pub use merging::merge;

@@ -7,7 +7,8 @@ ghost use Rattle.orc_merger.specs.Outcomes.{IsAnswer, WroteMerge, WrotePart};
 use crate::copying::{CopyFault, write_merged};
 use crate::fault::MergeFault;
 use crate::gathering::gather;
-use orc_file::{Sink, Source, Tail};
+use orc_io::{Sink, Source};
+use orc_tail::Tail;
 use std::alloc::Global;
 
 /// Merges files into one: the inputs' stripes as they are, and a tail that is theirs together. All tests come before

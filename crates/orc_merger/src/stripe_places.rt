@@ -5,7 +5,7 @@ ghost use Rattle.orc_merger.specs.Merging.{placed};
 ghost use Rattle.orc_merger.specs.Gathering.{pieces_in};
 
 use crate::copying::Piece;
-use orc_file::stripe_length;
+use orc_tail::stripe_length;
 use orc_wire::StripeInfo;
 use std::alloc::AllocError;
 

@@ -3,7 +3,7 @@ ghost use Rattle.std.specs.Prelude.{◌≡◌, ◌≢◌, ◌⊎◌, ◌++◌, �
 ghost use Rattle.orc_wire.specs.declared.footer.UserMetadataItem.{UserMetadataItem};
 ghost use Rattle.orc_merger.specs.declared.fault.MergeFault.TheVariants as fault;
 ghost use Rattle.orc_merger.specs.Merging.{Agree};
-ghost use Rattle.orc_merger.specs.PairPlaces.{ArePlaces};
+ghost use Rattle.orc_merger.specs.PairPlaces.{ArePairPlaces};
 ghost use Rattle.orc_merger.specs.Gathering.{HasPairs};
 
 use crate::differing::is_same;
@@ -33,9 +33,9 @@ impl UserPairs {
 
     /// The pair of this name.
     fn find(&self, name: &[u8]) -> Option<&UserMetadataItem>
-        ensures found { ArePlaces self.now.pairs.items self.now.places → IfSome result
+        ensures found { ArePairPlaces self.now.pairs.items self.now.places → IfSome result
             (λ pair. Contains self.now.pairs.items pair.now × (pair.now.name ≡ name.now)) }
-        ensures none { ArePlaces self.now.pairs.items self.now.places → IfNone result
+        ensures none { ArePairPlaces self.now.pairs.items self.now.places → IfNone result
             (All (λ (pair : UserMetadataItem). pair.name ≢ name.now) self.now.pairs.items) }
     {
         match self.places.get(name) {
@@ -47,8 +47,8 @@ impl UserPairs {
     /// Puts a pair, whose name is new, behind the others.
     fn push(&mut self, alloc: Global, pair: UserMetadataItem) -> Result<(), AllocError>
         ensures pairs { OnOk result (self.new.pairs.items ≡ self.old.pairs.items ++ pair ∷ []) }
-        ensures places { OnOk result (ArePlaces self.old.pairs.items self.old.places
-            → ArePlaces self.new.pairs.items self.new.places) }
+        ensures places { OnOk result (ArePairPlaces self.old.pairs.items self.old.places
+            → ArePairPlaces self.new.pairs.items self.new.places) }
     {
         let name = Vec::from_slice(alloc, pair.name.as_slice())?;
         let place = self.pairs.len();

@@ -6,24 +6,24 @@ use Rattle.std.specs.List.{drop-map}
 use Rattle.orc_bits.specs.Packed.{bits, digits, IsPacked}
 use Rattle.orc_bits.proofs.PackedLemmas.{length-bits, length-digits, digits-append}
 use Rattle.orc_rle.specs.BitStream.{digit, IsBitStream}
-use Rattle.orc_rle.specs.BitLaws.{held_len}
+use Rattle.orc_rle.proofs.BitLaws.{held_len}
 use Rattle.orc_rle.specs.ByteRun.{IsByteRun, NoByteRun}
 use Rattle.orc_rle.specs.declared.fault.RunFault.{RunFault}
-use Rattle.orc_rle.specs.ByteLaws.{one_byte_run, byte_run_some}
+use Rattle.orc_rle.proofs.ByteLaws.{one_byte_run, byte_run_some}
 use Rattle.orc_rle.specs.Seeking.{SeeksBits, BitSeekFails, bytes_needed}
 use Rattle.orc_rle.specs.Stream.{IsStream}
 use Rattle.orc_rle.proofs.BitLemmas.{digits_one}
 use Rattle.orc_rle.proofs.StreamLemmas.{runs_rest, one_stream}
 use Rattle.orc_positions.specs.Position.{HasValues, IsOneRun}
-use Rattle.orc_positions.specs.BitPosition.{BeginsBits, BitsLeft, BitsGoOn, IsWriterBitPosition, HasBits}
+use Rattle.orc_positions.specs.BitPosition.{BeginsBits, BitsPending, BitsGoOn, IsWriterBitPosition, HasBooleans}
 use Rattle.orc_positions.proofs.PositionLemmas.{goes_on, sought, one_number, one_place, SamePlace, seek_alone, fails_alone, rest_alone}
 
 -- bytes of a stream of booleans
-pub has_bytes : (bytes : List ℕ) (total n : ℕ) → HasBits bytes total → n ≤ total → HasValues IsByteRun bytes (n / 8)
+pub has_bytes : (bytes : List ℕ) (total n : ℕ) → HasBooleans bytes total → n ≤ total → HasValues IsByteRun bytes (n / 8)
 has_bytes bytes total n h le = (h.1.packed, h.1.runs, omega (arith, held_len h.1.packed h.0 h.1.held, h.2, le))
 
 -- and those before one of its booleans
-pub has_whole : (bytes : List ℕ) (total whole bits n : ℕ) → HasBits bytes total → n ≡ 8 * whole + bits → n ≤ total → HasValues IsByteRun bytes whole
+pub has_whole : (bytes : List ℕ) (total whole bits n : ℕ) → HasBooleans bytes total → n ≡ 8 * whole + bits → n ≤ total → HasValues IsByteRun bytes whole
 has_whole bytes total whole bits n h e le = (h.1.packed, h.1.runs, omega (arith, held_len h.1.packed h.0 h.1.held, h.2, le, e))
 
 digits-drop : (xs : List ℕ) (k : ℕ) → k ≤ length xs → drop (8 * k) (digits 8 xs) ≡ digits 8 (drop k xs)
@@ -55,7 +55,7 @@ few_spare packed all h =
     )
 
 pub bits_go_on : (bytes : List ℕ) (offset skip bits n at : ℕ) (left : List ℕ) (all : List Bool) → BeginsBits bytes (length all) offset skip bits n → IsBitStream bytes all
-    → SeeksBits bytes offset skip bits at left → BitsLeft left (drop at bytes) bits (drop n all)
+    → SeeksBits bytes offset skip bits at left → BitsPending left (drop at bytes) bits (drop n all)
 bits_go_on bytes offset skip bits n at left all h stream k =
     let runs = goes_on IsByteRun one_byte_run byte_run_some bytes offset skip (bytes_needed skip bits) h.whole at left stream.packed (omega arith) (omega arith) h.begins stream.runs k.1 in
     record {
@@ -98,7 +98,7 @@ pub one_bit_place : (bytes : List ℕ) (total o p s t k l n : ℕ) → IsWriterB
 one_bit_place bytes total o p s t k l n h g = (one_place IsByteRun one_byte_run byte_run_some bytes o p s t (n / 8) h.place g.place, h.bits_are ∙ sym g.bits_are)
 
 -- at the stream's end no boolean of a byte is passed
-none_at_end : (bytes : List ℕ) (total offset skip bits n : ℕ) → HasBits bytes total → IsWriterBitPosition bytes total offset skip bits n → offset ≡ length bytes → skip ≡ 0
+none_at_end : (bytes : List ℕ) (total offset skip bits n : ℕ) → HasBooleans bytes total → IsWriterBitPosition bytes total offset skip bits n → offset ≡ length bytes → skip ≡ 0
     → bytes_needed skip bits ≡ 0
 none_at_end bytes total offset skip bits n has h end none =
     let b = h.place.begins in
@@ -108,7 +108,7 @@ none_at_end bytes total offset skip bits n has h end none =
     omega (arith, none, h.bits_are, h.there, b.number_is, ap length same, held_len has.1.packed has.0 has.1.held, has.2)
 
 -- and needs one run at most
-pub bit_place_run : (bytes : List ℕ) (total offset skip bits n : ℕ) → HasBits bytes total → IsWriterBitPosition bytes total offset skip bits n
+pub bit_place_run : (bytes : List ℕ) (total offset skip bits n : ℕ) → HasBooleans bytes total → IsWriterBitPosition bytes total offset skip bits n
     → IsOneRun IsByteRun bytes offset (bytes_needed skip bits)
 bit_place_run bytes total offset skip bits n has h = elim h.place.inside [
   | inl end ↦ inl (none_at_end bytes total offset skip bits n has h end.0 end.1)
@@ -130,7 +130,7 @@ bits_alone a b offset skip bits all same le h = record {
   at = h.at;
   left = h.left;
   seeks = (h.seeks.0, seek_alone IsByteRun a b offset skip (bytes_needed skip bits) h.at h.left same le h.seeks.1);
-  goes_on = subst (λ (t : List ℕ). BitsLeft h.left t bits all) (rest_alone a b offset h.seeks.1.len h.at same h.seeks.1.at_is) h.goes_on;
+  goes_on = subst (λ (t : List ℕ). BitsPending h.left t bits all) (rest_alone a b offset h.seeks.1.len h.at same h.seeks.1.at_is) h.goes_on;
 }
 
 -- the lower digits of a number

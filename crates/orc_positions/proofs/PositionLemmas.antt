@@ -10,7 +10,7 @@ use Rattle.orc_rle.specs.Seeking.{Passes, Seeks, CountsRuns, SeekFails}
 use Rattle.orc_rle.proofs.RunLemmas.{One, Some, None}
 use Rattle.orc_rle.proofs.SeekLemmas.{counts_some, counts_zero}
 use Rattle.orc_rle.proofs.StreamLemmas.{Going, fronts, runs_push, runs_rest, one_stream, no_first, single, empty_front}
-use Rattle.orc_positions.specs.Position.{Begins, GoesOn, IsInside, IsWriterPosition, HasValues, IsOneRun}
+use Rattle.orc_positions.specs.Position.{Begins, GoesOnFrom, IsInside, IsWriterPosition, HasValues, IsOneRun}
 
 drop-front : {A : Type 0} (xs ys : List A) (n : ℕ) → n ≡ length xs → drop n (xs ++ ys) ≡ ys
 drop-front {A = A} xs ys n e = ap (λ (k : ℕ). drop k (xs ++ ys)) e ∙ drop-append_seam xs ys
@@ -123,7 +123,7 @@ reach_there R (p ∷ ps) bytes values skip (suc need) h le =
 
 -- a position is found
 pub sought : {A : Type 0} (R : List ℕ → List A → Type 0) → One R → Some R → (bytes : List ℕ) (offset skip need n : ℕ) (all : List A) → skip ≤ need → need ≤ skip + 1
-    → (h : Begins R bytes offset skip n) → need ≤ length h.after → IsStream R bytes all → GoesOn R bytes offset skip need (drop n all)
+    → (h : Begins R bytes offset skip n) → need ≤ length h.after → IsStream R bytes all → GoesOnFrom R bytes offset skip need (drop n all)
 sought R one some bytes offset skip need n all le ge h there stream =
     let rest = subst (λ (t : List ℕ). IsStream R t h.after) (sym (rest_is R bytes offset skip n h)) h.more in
     let r = reach_there R rest.0 (drop offset bytes) h.after skip need rest.1 there in
@@ -304,7 +304,7 @@ rest_alone a b offset len at same e =
     ap (λ (k : ℕ). drop k a) e ∙ (sym (drop-drop len offset a) ∙ (ap (drop len) same ∙ (drop-drop len offset b ∙ ap (λ (k : ℕ). drop k b) (sym e))))
 
 pub goes_on_alone : {A : Type 0} (R : List ℕ → List A → Type 0) (a b : List ℕ) (offset skip need : ℕ) (all : List A) → drop offset a ≡ drop offset b → offset ≤ length b
-    → GoesOn R a offset skip need all → GoesOn R b offset skip need all
+    → GoesOnFrom R a offset skip need all → GoesOnFrom R b offset skip need all
 goes_on_alone R a b offset skip need all same le h = record {
   at = h.at;
   left = h.left;

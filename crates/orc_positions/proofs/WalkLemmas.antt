@@ -2,26 +2,14 @@
 use Rattle.std.proofs.Common.{◌≡◌, ◌≢◌, ℕ, ◌+◌, ◌<◌, ◌≤◌, List, [], ◌∷◌, ◌++◌, length, take, drop, refl, sym, ap, ◌∙◌, subst, arith, inl, inr, append_assoc, length-append, length-drop}
 use Rattle.std.proofs.Math.Seq.{take-add}
 use Rattle.std.proofs.lemmas.Bool.{cases_lt}
-use Rattle.std.proofs.lemmas.List.{append-nil, take-append-drop, length-take-le, take_all}
+use Rattle.std.proofs.lemmas.List.{take-append-drop, length-take-le, take_all}
 use Rattle.orc_rle.specs.declared.fault.RunFault.{RunFault}
 use Rattle.orc_rle.specs.declared.fault.RunFault.TheVariants.{TooFew}
 use Rattle.orc_rle.specs.Stream.{AreRuns, IsStream, StopsWithin}
 use Rattle.orc_rle.proofs.RunLemmas.{One, Some, None, OneFault}
 use Rattle.orc_rle.proofs.StreamLemmas.{runs_rest, runs_push, no_first, within_few, within_none, one_stop_within}
 use Rattle.orc_positions.specs.RunTable.{Places, offsets_of, counts_of, ArePlaces}
-
--- one run more
-runs_more : {A : Type 0} (R : List ℕ → List A → Type 0) (ps : List (List ℕ × List A)) (a b : List ℕ) (v w : List A) → AreRuns R ps a v → R b w
-    → AreRuns R (ps ++ (b, w) ∷ []) (a ++ b) (v ++ w)
-runs_more {A = A} R [] a b v w h r = ([], [], r, ap (λ (t : List ℕ). t ++ b) h.0 ∙ sym (append-nil b), ap (λ (t : List A). t ++ w) h.1 ∙ sym (append-nil w), (refl, refl))
-runs_more {A = A} R (p ∷ ps) a b v w h r = (
-  h.0 ++ b,
-  h.1 ++ w,
-  h.2,
-  ap (λ (t : List ℕ). t ++ b) h.3 ∙ append_assoc p.0 h.0 b,
-  ap (λ (t : List A). t ++ w) h.4 ∙ append_assoc p.1 h.1 w,
-  runs_more R ps h.0 b h.1 w h.5 r,
-)
+use Rattle.orc_rle.proofs.SeekLemmas.{runs_more}
 
 offsets_more : {A : Type 0} (R : List ℕ → List A → Type 0) (ps : List (List ℕ × List A)) (p : List ℕ × List A) (bytes : List ℕ) (values : List A) (at : ℕ) → AreRuns R ps bytes values
     → offsets_of at (ps ++ p ∷ []) ≡ offsets_of at ps ++ (at + length bytes + length p.0) ∷ []

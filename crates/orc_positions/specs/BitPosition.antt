@@ -17,7 +17,7 @@ pub record BeginsBits (bytes : List ℕ) (total offset skip bits n : ℕ) : Type
 
 -- the digits of the bytes that are left, without those that are passed, are those of the booleans and fewer than
 -- eight to spare
-pub record BitsLeft (pending rest : List ℕ) (bits : ℕ) (all : List Bool) : Type 0 where
+pub record BitsPending (pending rest : List ℕ) (bits : ℕ) (all : List Bool) : Type 0 where
   pub packed : List ℕ
   pub runs : RunsLeft IsByteRun pending rest packed
   pub spare : List ℕ
@@ -29,7 +29,7 @@ pub record BitsGoOn (bytes : List ℕ) (offset skip bits : ℕ) (all : List Bool
   pub at : ℕ
   pub left : List ℕ
   pub seeks : SeeksBits bytes offset skip bits at left
-  pub goes_on : BitsLeft left (drop at bytes) bits all
+  pub goes_on : BitsPending left (drop at bytes) bits all
 
 -- the position that a writer gives to boolean n of so many
 pub record IsWriterBitPosition (bytes : List ℕ) (total offset skip bits n : ℕ) : Type 0 where
@@ -38,5 +38,5 @@ pub record IsWriterBitPosition (bytes : List ℕ) (total offset skip bits n : �
   pub there : n ≤ total
 
 -- the bytes are a stream of so many booleans
-abbrev pub HasBits : List ℕ → ℕ → Type 0
-HasBits bytes total = (values : List Bool) × IsBitStream bytes values × (length values ≡ total)
+abbrev pub HasBooleans : List ℕ → ℕ → Type 0
+HasBooleans bytes total = (values : List Bool) × IsBitStream bytes values × (length values ≡ total)

@@ -7,8 +7,8 @@ ghost use Rattle.orc_rle.specs.BitStream.{IsBitStream};
 ghost use Rattle.orc_rle.specs.ByteRun.{IsByteRun, NoByteRun};
 ghost use Rattle.orc_rle.specs.Seeking.{bytes_needed, Seeks, SeekFails, SeeksBits, BitSeekFails};
 ghost use Rattle.orc_rle.specs.Stream.{IsStream, RunsLeft};
-ghost use Rattle.orc_positions.specs.Position.{Begins, GoesOn, IsWriterPosition, HasValues};
-ghost use Rattle.orc_positions.specs.BitPosition.{BeginsBits, BitsGoOn, BitsLeft, IsWriterBitPosition, HasBits};
+ghost use Rattle.orc_positions.specs.Position.{Begins, GoesOnFrom, IsWriterPosition, HasValues};
+ghost use Rattle.orc_positions.specs.BitPosition.{BeginsBits, BitsGoOn, BitsPending, IsWriterBitPosition, HasBooleans};
 ghost use Rattle.orc_positions.specs.RunStarts.{start_of_stream, IsRunStart};
 
 use orc_rle::{BitPos, BitRuns, ByteRuns, Pos, Run, RunCodec, RunFault, RunU8, Sign};
@@ -22,7 +22,7 @@ pub fn seek_laws<C: RunCodec>()
     ensures sought { (sign : Sign) (bytes : List ℕ) (offset skip n : ℕ) (all : List ℤ)
         → Begins (C.is_run sign) bytes offset skip n
         → IsStream (C.is_run sign) bytes all
-        → GoesOn (C.is_run sign) bytes offset skip skip (drop n all) }
+        → GoesOnFrom (C.is_run sign) bytes offset skip skip (drop n all) }
     // Whatever is found from such a position, what is left of the run and the runs after it are the
     // values from n on.
     ensures goes_on { (sign : Sign) (bytes : List ℕ) (offset skip n at : ℕ) (left all : List ℤ)
@@ -44,8 +44,8 @@ pub fn seek_laws<C: RunCodec>()
     ensures goes_on_alone { (sign : Sign) (a b : List ℕ) (offset skip : ℕ) (all : List ℤ)
         → drop offset a ≡ drop offset b
         → offset ≤ length b
-        → GoesOn (C.is_run sign) a offset skip skip all
-        → GoesOn (C.is_run sign) b offset skip skip all }
+        → GoesOnFrom (C.is_run sign) a offset skip skip all
+        → GoesOnFrom (C.is_run sign) b offset skip skip all }
     // What is refused from it in one is refused in the other, with the same fault.
     ensures fails_alone { (sign : Sign) (a b : List ℕ) (offset skip : ℕ) (fault : RunFault)
         → drop offset a ≡ drop offset b
@@ -67,7 +67,7 @@ pub fn byte_seek_laws()
     // Where the bytes are a stream, a position that names byte n is found, and what is left of its
     // run and the runs after it are the bytes from n on.
     ensures sought { (bytes : List ℕ) (offset skip n : ℕ) (all : List ℕ) → Begins IsByteRun bytes offset skip n
-        → IsStream IsByteRun bytes all → GoesOn IsByteRun bytes offset skip skip (drop n all) }
+        → IsStream IsByteRun bytes all → GoesOnFrom IsByteRun bytes offset skip skip (drop n all) }
     // Whatever is found from such a position, what is left of the run and the runs after it are the
     // bytes from n on.
     ensures goes_on { (bytes : List ℕ) (offset skip n at : ℕ) (left all : List ℕ)
@@ -89,8 +89,8 @@ pub fn byte_seek_laws()
     ensures goes_on_alone { (a b : List ℕ) (offset skip : ℕ) (all : List ℕ)
         → drop offset a ≡ drop offset b
         → offset ≤ length b
-        → GoesOn IsByteRun a offset skip skip all
-        → GoesOn IsByteRun b offset skip skip all }
+        → GoesOnFrom IsByteRun a offset skip skip all
+        → GoesOnFrom IsByteRun b offset skip skip all }
     // What is refused from it in one is refused in the other, with the same fault.
     ensures fails_alone { (a b : List ℕ) (offset need : ℕ) (fault : RunFault)
         → drop offset a ≡ drop offset b
@@ -120,7 +120,7 @@ pub fn bit_seek_laws()
         → BeginsBits bytes (length all) offset skip bits n
         → IsBitStream bytes all
         → SeeksBits bytes offset skip bits at left
-        → BitsLeft left (drop at bytes) bits (drop n all) }
+        → BitsPending left (drop at bytes) bits (drop n all) }
     // A position names one boolean at most.
     ensures one_number { (bytes : List ℕ) (total offset skip bits n m : ℕ) → BeginsBits bytes total offset skip bits n
         → BeginsBits bytes total offset skip bits m → n ≡ m }
@@ -153,7 +153,7 @@ pub fn bit_seek_laws()
         → (o ≡ p) × (s ≡ t) × (k ≡ l) }
     // Where a stream has n booleans or more, its runs have n / 8 bytes or more.
     ensures there { (bytes : List ℕ) (total n : ℕ)
-        → HasBits bytes total → n ≤ total → HasValues IsByteRun bytes (n / 8) }
+        → HasBooleans bytes total → n ≤ total → HasValues IsByteRun bytes (n / 8) }
 {}
 
 /// What `C::seek` answers from a position of the writer's: one run is decoded, and none where no value is passed.
@@ -211,7 +211,7 @@ pub fn byte_seek_position(bytes: &[u8], pos: Pos, run: &mut RunU8) -> Result<usi
 /// The same in a stream of booleans.
 pub fn bit_seek_position(bytes: &[u8], pos: BitPos, run: &mut RunU8) -> Result<usize, RunFault>
     requires { (total : ℕ) × (n : ℕ)
-        × HasBits bytes.now total × IsWriterBitPosition bytes.now total pos.offset pos.skip pos.bits n }
+        × HasBooleans bytes.now total × IsWriterBitPosition bytes.now total pos.offset pos.skip pos.bits n }
     // From the writer's position of a boolean, the answer is the offset behind the run that is
     // decoded; what is left of it is in `run`, first the byte of which bits are passed.
     ensures found { IfOk result (λ at. SeeksBits bytes.now pos.offset pos.skip pos.bits at run.new.values) }

@@ -6,7 +6,7 @@ ghost use Rattle.orc_rle.specs.declared.sign.Sign.{Sign};
 ghost use Rattle.orc_rle.specs.Stream.{IsStream, StopsWithin, Refuses};
 ghost use Rattle.orc_rle.specs.ByteRun.{IsByteRun, NoByteRun};
 ghost use Rattle.orc_positions.specs.Position.{Begins, HasValues};
-ghost use Rattle.orc_positions.specs.BitPosition.{BeginsBits, HasBits};
+ghost use Rattle.orc_positions.specs.BitPosition.{BeginsBits, HasBooleans};
 ghost use Rattle.orc_positions.specs.RunTable.{Places, ArePlaces, Names, NamesBit};
 
 use orc_rle::{ByteRuns, Run, RunCodec, RunFault, RunU8, Sign};
@@ -200,7 +200,7 @@ pub fn byte_place_laws()
     // n names it.
     ensures named_bit { (bytes : List ℕ) (places : Places) (total offset skip bits n : ℕ)
         → ArePlaces IsByteRun bytes places
-        → HasBits bytes total
+        → HasBooleans bytes total
         → n ≤ total
         → NamesBit places offset skip bits n
         → BeginsBits bytes total offset skip bits n }

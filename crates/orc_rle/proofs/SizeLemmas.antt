@@ -10,16 +10,16 @@ use Rattle.orc_bits.specs.Width.{width_at}
 use Rattle.orc_rle.specs.declared.fault.RunFault.{RunFault}
 use Rattle.orc_rle.specs.declared.sign.Sign.{Sign}
 use Rattle.orc_rle.specs.Delta.{IsStart, IsDelta, NoStart}
-use Rattle.orc_rle.specs.DeltaLaws.{both_starts, start_none}
+use Rattle.orc_rle.specs.laws.DeltaLaws.{both_starts, start_none}
 use Rattle.orc_rle.specs.Direct.{AllStand, IsDirect}
-use Rattle.orc_rle.specs.FrontLaws.{after_one}
+use Rattle.orc_rle.specs.laws.FrontLaws.{after_one}
 use Rattle.orc_rle.specs.Header.{code_in, count_in}
-use Rattle.orc_rle.specs.OneLaws.{parts_of}
+use Rattle.orc_rle.specs.laws.OneLaws.{parts_of}
 use Rattle.orc_rle.specs.Patched.{IsPatched}
-use Rattle.orc_rle.specs.PatchedLaws.{length-raised}
+use Rattle.orc_rle.specs.laws.PatchedLaws.{length-raised}
 use Rattle.orc_rle.specs.RunOne.{IsRunOne}
 use Rattle.orc_rle.specs.RunTwo.{IsShapeTwo}
-use Rattle.orc_rle.specs.TextRunLaws.{length-walk}
+use Rattle.orc_rle.specs.laws.TextRunLaws.{length-walk}
 use Rattle.orc_rle.specs.Values.{IsSpelled}
 use Rattle.orc_rle.proofs.OneLemmas.{length-progression}
 

@@ -13,11 +13,11 @@ pub(crate) struct RunCount {
 
 impl Model for RunCount {
     ghost use Rattle.std.specs.Prelude.{ℕ};
-    ghost use Rattle.orc_rle.specs.Counting.{count};
+    ghost use Rattle.orc_rle.specs.Counting.{runs_counted};
 
     ghost Value = { ℕ };
 
-    ghost view = { λ runs. count runs.before };
+    ghost view = { λ runs. runs_counted runs.before };
 
     ghost size = { λ n. n };
 }

@@ -10,21 +10,22 @@ use Rattle.orc_values.specs.Columns.{cells}
 use Rattle.orc_values.specs.Fits.{fits}
 use Rattle.orc_values.specs.Shapes.{Shape, width}
 use Rattle.orc_values.proofs.Deeper.{width_pos, cells-zero}
-use Rattle.orc_values.proofs.Together.{all_append, cells-append}
-use Rattle.orc_row_batch.specs.Batch.{columns_of, column_cells, kept_rows, Holds}
-use Rattle.orc_row_batch.specs.Kept.{Kept, nothing, kept, with_cells, told}
+use Rattle.orc_values.proofs.Together.{cells-append}
+use Rattle.orc_row_batch.specs.Batch.{kept_columns, column_cells, kept_rows, Holds}
+use Rattle.orc_row_batch.specs.Kept.{KeptColumn, nothing, kept, with_cells, told}
 use Rattle.orc_row_batch.specs.Keeping.{column_at, AddsOne, AddsCells}
 use Rattle.orc_row_batch.specs.declared.batch.RowBatch.{RowBatch}
 use Rattle.orc_row_batch.specs.declared.vector.ColumnVector.{ColumnVector}
 use Rattle.orc_row_batch.proofs.KeptLemmas.{with_more, told_back}
-use Rattle.orc_row_batch.proofs.NoCells.{no_rows}
+use Rattle.orc_values.proofs.NoCells.{no_rows}
 use Rattle.orc_row_batch.proofs.RowsBack.{rows_back}
+use Rattle.orc_values.proofs.Lists.{all_append}
 
 -- ---- no rows
 
 -- all columns keep nothing
 abbrev pub AreEmpty : List ColumnVector → Type 0
-AreEmpty vectors = (c : ℕ) → column_at (columns_of vectors) c ≡ nothing
+AreEmpty vectors = (c : ℕ) → column_at (kept_columns vectors) c ≡ nothing
 
 pub none_held : (s : Shape) (batch : RowBatch) → length batch.columns.items ≡ width s → AreEmpty batch.columns.items → Holds s [] batch
 none_held s batch wide empty = record {
@@ -36,7 +37,7 @@ none_held s batch wide empty = record {
 -- ---- a row more
 
 pub one_more : (s : Shape) (rows : List Cell) (row : Cell) (old new : RowBatch) → Holds s rows old → fits row s ≡ true → length new.columns.items ≡ length old.columns.items
-    → AddsCells s 0 (row ∷ []) (columns_of old.columns.items) (columns_of new.columns.items) → Holds s (rows ++ row ∷ []) new
+    → AddsCells s 0 (row ∷ []) (kept_columns old.columns.items) (kept_columns new.columns.items) → Holds s (rows ++ row ∷ []) new
 one_more s rows row old new h fit wide adds = record {
   columns = wide ∙ h.columns;
   fit = all_append (λ c. fits c s ≡ true) rows (row ∷ []) h.fit (fit, tt);
@@ -57,9 +58,9 @@ held_rows s rows batch h =
     rows_back s (column_cells batch) 0 rows h.fit (λ c l. let e : 0 + c ≡ c = omega arith in ap (column_cells batch) e ∙ column_said s rows batch c h l)
 
 -- there are as many as the first column has cells
-pub rows_counted : (s : Shape) (rows : List Cell) (batch : RowBatch) → Holds s rows batch → length (column_at (columns_of batch.columns.items) 0).cells ≡ length rows
+pub rows_counted : (s : Shape) (rows : List Cell) (batch : RowBatch) → Holds s rows batch → length (column_at (kept_columns batch.columns.items) 0).cells ≡ length rows
 rows_counted s rows batch h =
-    ap (λ (k : Kept). length k.cells) (h.kept_cells 0 (width_pos s)) ∙ length-map (cells s 0 rows) _ ∙ ap length (cells-zero s rows)
+    ap (λ (k : KeptColumn). length k.cells) (h.kept_cells 0 (width_pos s)) ∙ length-map (cells s 0 rows) _ ∙ ap length (cells-zero s rows)
 
 -- ---- columns one by one
 
@@ -77,7 +78,7 @@ none_empty c = refl
 
 -- the first so many columns keep nothing
 abbrev pub AreEmptyBelow : ℕ → List ColumnVector → Type 0
-AreEmptyBelow n vectors = (c : ℕ) → c < n → column_at (columns_of vectors) c ≡ nothing
+AreEmptyBelow n vectors = (c : ℕ) → c < n → column_at (kept_columns vectors) c ≡ nothing
 
 pub none_below : (vectors : List ColumnVector) → AreEmptyBelow 0 vectors
 none_below vectors c l = absurd (omega (arith, l))
@@ -85,13 +86,13 @@ none_below vectors c l = absurd (omega (arith, l))
 pub below_set : (vectors : List ColumnVector) (i : ℕ) (v : ColumnVector) → AreEmptyBelow i vectors → kept v ≡ nothing → i < length vectors → AreEmptyBelow (i + 1) (set vectors i v)
 below_set vectors i v h e l c b =
     let m = map-set kept vectors i v in
-    let long : i < length (columns_of vectors) = omega (arith, l, length-map vectors kept) in
+    let long : i < length (kept_columns vectors) = omega (arith, l, length-map vectors kept) in
     elim (leb_tells (suc c) i) [
-      | inl p ↦ rw m (get_or-set_other (columns_of vectors) i c (kept v) (nothing) (λ same. omega (arith, same, p.1)) ∙ h c p.1)
-      | inr p ↦ rw m (get_or-set_at (columns_of vectors) i c (kept v) (nothing) (omega (arith, b, p.1)) long ∙ e)
+      | inl p ↦ rw m (get_or-set_other (kept_columns vectors) i c (kept v) (nothing) (λ same. omega (arith, same, p.1)) ∙ h c p.1)
+      | inr p ↦ rw m (get_or-set_at (kept_columns vectors) i c (kept v) (nothing) (omega (arith, b, p.1)) long ∙ e)
     ]
 
-past_end : (vectors : List ColumnVector) (c : ℕ) → length vectors ≤ c → column_at (columns_of vectors) c ≡ nothing
+past_end : (vectors : List ColumnVector) (c : ℕ) → length vectors ≤ c → column_at (kept_columns vectors) c ≡ nothing
 past_end [] c l = refl
 past_end (x ∷ xs) zero l = absurd (omega (arith, l))
 past_end (x ∷ xs) (suc c) l = past_end xs c (omega (arith, l))
@@ -101,27 +102,27 @@ all_below vectors n h l c = elim (leb_tells (suc c) n) [ inl p ↦ h c p.1 | inr
 
 -- ---- a column by its number
 
-pub column_here : (vectors : List ColumnVector) (i : ℕ) (v : ColumnVector) → i < length vectors → v ≡ get_or vectors i v → column_at (columns_of vectors) i ≡ kept v
+pub column_here : (vectors : List ColumnVector) (i : ℕ) (v : ColumnVector) → i < length vectors → v ≡ get_or vectors i v → column_at (kept_columns vectors) i ≡ kept v
 column_here [] i v l is = absurd (omega (arith, l))
 column_here (x ∷ xs) zero v l is = ap kept (sym is)
 column_here (x ∷ xs) (suc i) v l is = column_here xs i v (omega (arith, l)) is
 
 pub column_set : (vectors : List ColumnVector) (i : ℕ) (old new : ColumnVector) (cell : Cell) → i < length vectors → old ≡ get_or vectors i old → kept new ≡ with_cells (cell ∷ []) (kept old)
-    → AddsOne i cell (columns_of vectors) (columns_of (set vectors i new))
+    → AddsOne i cell (kept_columns vectors) (kept_columns (set vectors i new))
 column_set vectors i old new cell l is e =
     let m = map-set kept vectors i new in
-    let long : i < length (columns_of vectors) = omega (arith, l, length-map vectors kept) in
+    let long : i < length (kept_columns vectors) = omega (arith, l, length-map vectors kept) in
     record {
-      same = ap length m ∙ length-set (columns_of vectors) i (kept new);
-      added = rw m (get_or-set_same (columns_of vectors) i (kept new) (nothing) long ∙ e ∙ ap (with_cells (cell ∷ [])) (sym (column_here vectors i old l is)));
-      others = λ k other. rw m (get_or-set_other (columns_of vectors) i k (kept new) (nothing) other);
+      same = ap length m ∙ length-set (kept_columns vectors) i (kept new);
+      added = rw m (get_or-set_same (kept_columns vectors) i (kept new) (nothing) long ∙ e ∙ ap (with_cells (cell ∷ [])) (sym (column_here vectors i old l is)));
+      others = λ k other. rw m (get_or-set_other (kept_columns vectors) i k (kept new) (nothing) other);
     }
 
-pub first_column : (vectors : List ColumnVector) (v : ColumnVector) → Some v ≡ slice_get vectors 0 → column_at (columns_of vectors) 0 ≡ kept v
+pub first_column : (vectors : List ColumnVector) (v : ColumnVector) → Some v ≡ slice_get vectors 0 → column_at (kept_columns vectors) 0 ≡ kept v
 first_column [] v e = cc
 first_column (x ∷ xs) v e = let same : x ≡ v = cc in ap kept same
 
-pub no_column : (vectors : List ColumnVector) → None ≡ slice_get vectors 0 → column_at (columns_of vectors) 0 ≡ nothing
+pub no_column : (vectors : List ColumnVector) → None ≡ slice_get vectors 0 → column_at (kept_columns vectors) 0 ≡ nothing
 no_column [] e = refl
 no_column (x ∷ xs) e = cc
 

@@ -14,24 +14,24 @@ use Rattle.orc_values.specs.declared.value.MapPair.{MapPair}
 use Rattle.orc_values.proofs.ByColumn.{parts_values, keys_values, values_values}
 use Rattle.orc_values.proofs.Listed.{fields_from, widths_from}
 use Rattle.orc_values.proofs.Together.{cells-append}
-use Rattle.orc_row_batch.specs.Kept.{Kept, with_cells}
+use Rattle.orc_row_batch.specs.Kept.{KeptColumn, with_cells}
 use Rattle.orc_row_batch.specs.Keeping.{column_at, AddsOne, AddsCells, AddsFields}
 use Rattle.orc_row_batch.proofs.KeptLemmas.{with_none, with_more}
-use Rattle.orc_row_batch.proofs.NoCells.{no_rows, one_struct}
+use Rattle.orc_values.proofs.NoCells.{no_rows, one_struct}
 
 -- ---- rows one after the other
 
-no_cell_more : (s : Shape) (c : ℕ) (k : Kept) → k ≡ with_cells (cells s c []) k
+no_cell_more : (s : Shape) (c : ℕ) (k : KeptColumn) → k ≡ with_cells (cells s c []) k
 no_cell_more s c k = sym (ap (λ cs. with_cells cs k) (no_rows s c) ∙ with_none k)
 
-pub adds_none : (s : Shape) (place : ℕ) (columns : List Kept) → AddsCells s place [] columns columns
+pub adds_none : (s : Shape) (place : ℕ) (columns : List KeptColumn) → AddsCells s place [] columns columns
 adds_none s place columns = record {
   same = refl;
   added = λ c l. no_cell_more s c (column_at columns (place + c));
   others = λ k h. refl;
 }
 
-pub adds_more : (s : Shape) (place : ℕ) (a b : List Cell) (old mid new : List Kept) → AddsCells s place a old mid → AddsCells s place b mid new → AddsCells s place (a ++ b) old new
+pub adds_more : (s : Shape) (place : ℕ) (a b : List Cell) (old mid new : List KeptColumn) → AddsCells s place a old mid → AddsCells s place b mid new → AddsCells s place (a ++ b) old new
 adds_more s place a b old mid new p q = record {
   same = q.same ∙ p.same;
   added = λ c l.
@@ -42,14 +42,14 @@ adds_more s place a b old mid new p q = record {
 
 -- ---- a cell, and what is in it
 
-pub adds_scalar : (k : Scalar) (o : List ℕ) (place : ℕ) (cell : Cell) (old new : List Kept) → AddsOne place cell old new → AddsCells (scalar k o) place (cell ∷ []) old new
+pub adds_scalar : (k : Scalar) (o : List ℕ) (place : ℕ) (cell : Cell) (old new : List KeptColumn) → AddsOne place cell old new → AddsCells (scalar k o) place (cell ∷ []) old new
 adds_scalar k o place cell old new p = record {
   same = p.same;
   added = λ c l. let e : place + c ≡ place = omega arith in rw e p.added;
   others = λ i h. p.others i (λ e. elim h [ inl a ↦ omega arith | inr b ↦ omega arith ]);
 }
 
-module _ (s : Shape) (o : List ℕ) (place : ℕ) (cell : Cell) (old mid new : List Kept) (p : AddsOne place cell old mid) (q : AddsCells s (place + 1) (parts cell) mid new) where
+module _ (s : Shape) (o : List ℕ) (place : ℕ) (cell : Cell) (old mid new : List KeptColumn) (p : AddsOne place cell old mid) (q : AddsCells s (place + 1) (parts cell) mid new) where
   list_added : (c : ℕ) → c < 1 + width s → column_at new (place + c) ≡ with_cells (cells (list_of s o) c (cell ∷ [])) (column_at old (place + c))
   list_added zero l =
       let e : place + 0 ≡ place = omega arith in
@@ -68,7 +68,7 @@ module _ (s : Shape) (o : List ℕ) (place : ℕ) (cell : Cell) (old mid new : L
     others = λ k h. q.others k (elim h [ inl a ↦ inl (omega arith) | inr b ↦ inr (omega arith) ]) ∙ p.others k (λ w. elim h [ inl a ↦ omega arith | inr b ↦ omega arith ]);
   }
 
-module _ (k v : Shape) (o : List ℕ) (place : ℕ) (cell : Cell) (old one mid new : List Kept) (p : AddsOne place cell old one)
+module _ (k v : Shape) (o : List ℕ) (place : ℕ) (cell : Cell) (old one mid new : List KeptColumn) (p : AddsOne place cell old one)
     (q : AddsCells k (place + 1) (keys_in cell) one mid) (r : AddsCells v (place + 1 + width k) (values_in cell) mid new) where
   map_added : (c : ℕ) → c < 1 + (width k + width v) → column_at new (place + c) ≡ with_cells (cells (map_of k v o) c (cell ∷ [])) (column_at old (place + c))
   map_added zero l =
@@ -102,7 +102,7 @@ module _ (k v : Shape) (o : List ℕ) (place : ℕ) (cell : Cell) (old one mid n
         ∙ p.others i (λ w. elim h [ inl a ↦ omega arith | inr b ↦ omega arith ]);
   }
 
-module _ (fs : Fields) (o : List ℕ) (place : ℕ) (cell : Cell) (old mid new : List Kept) (p : AddsOne place cell old mid) (q : AddsFields fs (place + 1) (parts cell) mid new) where
+module _ (fs : Fields) (o : List ℕ) (place : ℕ) (cell : Cell) (old mid new : List KeptColumn) (p : AddsOne place cell old mid) (q : AddsFields fs (place + 1) (parts cell) mid new) where
   struct_added : (c : ℕ) → c < 1 + widths fs → column_at new (place + c) ≡ with_cells (cells (struct_of fs o) c (cell ∷ [])) (column_at old (place + c))
   struct_added zero l =
       let e : place + 0 ≡ place = omega arith in
@@ -123,10 +123,10 @@ module _ (fs : Fields) (o : List ℕ) (place : ℕ) (cell : Cell) (old mid new :
 
 -- ---- the fields of a struct
 
-pub adds_no_field : (place : ℕ) (parts : List Cell) (columns : List Kept) → AddsFields no_field place parts columns columns
+pub adds_no_field : (place : ℕ) (parts : List Cell) (columns : List KeptColumn) → AddsFields no_field place parts columns columns
 adds_no_field place parts columns = record { same = refl; added = λ c l. absurd (omega arith); others = λ k h. refl }
 
-module _ (name : List ℕ) (s : Shape) (fs : Fields) (place : ℕ) (part : Cell) (rest : List Cell) (old mid new : List Kept)
+module _ (name : List ℕ) (s : Shape) (fs : Fields) (place : ℕ) (part : Cell) (rest : List Cell) (old mid new : List KeptColumn)
     (p : AddsCells s place (part ∷ []) old mid) (q : AddsFields fs (place + width s) rest mid new) where
   field_added : (c : ℕ) → c < width s + widths fs → column_at new (place + c) ≡ with_cells (cells_within (field name s fs) c ((part ∷ rest) ∷ [])) (column_at old (place + c))
   field_added c l =
@@ -145,7 +145,7 @@ module _ (name : List ℕ) (s : Shape) (fs : Fields) (place : ℕ) (part : Cell)
     others = λ k h. q.others k (elim h [ inl a ↦ inl (omega arith) | inr b ↦ inr (omega arith) ]) ∙ p.others k (elim h [ inl a ↦ inl (omega arith) | inr b ↦ inr (omega arith) ]);
   }
 
-module _ (name : List ℕ) (s : Shape) (fs : Fields) (place : ℕ) (old new : List Kept) (q : AddsFields fs (place + width s) [] old new) where
+module _ (name : List ℕ) (s : Shape) (fs : Fields) (place : ℕ) (old new : List KeptColumn) (q : AddsFields fs (place + width s) [] old new) where
   lacking_added : (c : ℕ) → c < width s + widths fs → column_at new (place + c) ≡ with_cells (cells_within (field name s fs) c ([] ∷ [])) (column_at old (place + c))
   lacking_added c l =
       elim (leb_tells (suc c) (width s)) [
@@ -167,18 +167,18 @@ module _ (name : List ℕ) (s : Shape) (fs : Fields) (place : ℕ) (old new : Li
 
 -- ---- the walk's steps, as the code takes them
 
-pub list_kept : (x s : Shape) (o : List ℕ) (place : ℕ) (cell : Cell) (old mid new : List Kept) → x ≡ list_of s o → AddsOne place cell old mid → AddsCells s (place + 1) (parts cell) mid new → AddsCells x place (cell ∷ []) old new
+pub list_kept : (x s : Shape) (o : List ℕ) (place : ℕ) (cell : Cell) (old mid new : List KeptColumn) → x ≡ list_of s o → AddsOne place cell old mid → AddsCells s (place + 1) (parts cell) mid new → AddsCells x place (cell ∷ []) old new
 list_kept x s o place cell old mid new e p q = rw e (adds_list s o place cell old mid new p q)
 
-pub map_kept : (x k v : Shape) (o : List ℕ) (place : ℕ) (cell : Cell) (old one mid new : List Kept) → x ≡ map_of k v o → AddsOne place cell old one
+pub map_kept : (x k v : Shape) (o : List ℕ) (place : ℕ) (cell : Cell) (old one mid new : List KeptColumn) → x ≡ map_of k v o → AddsOne place cell old one
     → AddsCells k (place + 1) (keys_in cell) one mid → AddsCells v (place + 1 + width k) (values_in cell) mid new → AddsCells x place (cell ∷ []) old new
 map_kept x k v o place cell old one mid new e p q r = rw e (adds_map k v o place cell old one mid new p q r)
 
-pub struct_kept : (x : Shape) (fs : Fields) (o : List ℕ) (place : ℕ) (cell : Cell) (old mid new : List Kept) → x ≡ struct_of fs o → AddsOne place cell old mid → AddsFields fs (place + 1) (parts cell) mid new → AddsCells x place (cell ∷ []) old new
+pub struct_kept : (x : Shape) (fs : Fields) (o : List ℕ) (place : ℕ) (cell : Cell) (old mid new : List KeptColumn) → x ≡ struct_of fs o → AddsOne place cell old mid → AddsFields fs (place + 1) (parts cell) mid new → AddsCells x place (cell ∷ []) old new
 struct_kept x fs o place cell old mid new e p q = rw e (adds_struct fs o place cell old mid new p q)
 
 -- a part more
-pub part_kept : (s : Shape) (place : ℕ) (rows : List (Option Value)) (i : ℕ) (r : Option Value) (old mid new : List Kept) → i < length rows → r ≡ get_or rows i r
+pub part_kept : (s : Shape) (place : ℕ) (rows : List (Option Value)) (i : ℕ) (r : Option Value) (old mid new : List KeptColumn) → i < length rows → r ≡ get_or rows i r
     → AddsCells s place (views (take i rows)) old mid → AddsCells s place (view r ∷ []) mid new → AddsCells s place (views (take (i + 1) rows)) old new
 part_kept s place rows i r old mid new l is p q =
     let t : take (i + 1) rows ≡ take i rows ++ r ∷ [] = ap (λ n. take n rows) (add-one i) ∙ take-suc rows i r l ∙ ap (λ x. take i rows ++ x ∷ []) (sym is) in
@@ -186,7 +186,7 @@ part_kept s place rows i r old mid new l is p q =
     rw e (adds_more s place (views (take i rows)) (view r ∷ []) old mid new p q)
 
 -- a pair more, of which one part is kept here
-pub pair_kept : (f : Cell × Cell → Cell) (s : Shape) (place : ℕ) (ps : List MapPair) (i : ℕ) (p : MapPair) (c : Cell) (old mid new : List Kept) → i < length ps → p ≡ get_or ps i p → f (paired p) ≡ c
+pub pair_kept : (f : Cell × Cell → Cell) (s : Shape) (place : ℕ) (ps : List MapPair) (i : ℕ) (p : MapPair) (c : Cell) (old mid new : List KeptColumn) → i < length ps → p ≡ get_or ps i p → f (paired p) ≡ c
     → AddsCells s place (map f (map paired (take i ps))) old mid → AddsCells s place (c ∷ []) mid new → AddsCells s place (map f (map paired (take (i + 1) ps))) old new
 pair_kept f s place ps i p c old mid new l is own before now =
     let t : take (i + 1) ps ≡ take i ps ++ p ∷ [] = ap (λ n. take n ps) (add-one i) ∙ take-suc ps i p l ∙ ap (λ x. take i ps ++ x ∷ []) (sym is) in
@@ -195,34 +195,34 @@ pair_kept f s place ps i p c old mid new l is own before now =
     rw e (adds_more s place (map f (map paired (take i ps))) (c ∷ []) old mid new before now)
 
 -- all pairs
-pub pairs_kept : (f : Cell × Cell → Cell) (s : Shape) (place : ℕ) (ps : List MapPair) (i : ℕ) (old new : List Kept) → length ps ≤ i → AddsCells s place (map f (map paired (take i ps))) old new → AddsCells s place (map f (map paired ps)) old new
+pub pairs_kept : (f : Cell × Cell → Cell) (s : Shape) (place : ℕ) (ps : List MapPair) (i : ℕ) (old new : List KeptColumn) → length ps ≤ i → AddsCells s place (map f (map paired (take i ps))) old new → AddsCells s place (map f (map paired ps)) old new
 pairs_kept f s place ps i old new l p = rw (take_all i ps l) at p
 
 -- all parts
-pub parts_kept : (s : Shape) (place : ℕ) (rows : List (Option Value)) (i : ℕ) (old new : List Kept) → length rows ≤ i → AddsCells s place (views (take i rows)) old new → AddsCells s place (views rows) old new
+pub parts_kept : (s : Shape) (place : ℕ) (rows : List (Option Value)) (i : ℕ) (old new : List KeptColumn) → length rows ≤ i → AddsCells s place (views (take i rows)) old new → AddsCells s place (views rows) old new
 parts_kept s place rows i old new l p = rw (take_all i rows l) at p
 
 -- ---- fields, one after the other, as the code goes through them
 
 -- So many fields are kept: with what the others add, all are.
-pub record FieldsKept (fields : List Field) (rows : List (Option Value)) (first next place : ℕ) (old mid : List Kept) : Type 0 where
+pub record FieldsKept (fields : List Field) (rows : List (Option Value)) (first next place : ℕ) (old mid : List KeptColumn) : Type 0 where
   pub same : length mid ≡ length old
   pub left : next + widths (fields_view (drop place fields)) ≡ first + widths (fields_view fields)
-  pub all : (new : List Kept) → AddsFields (fields_view (drop place fields)) next (views (drop place rows)) mid new → AddsFields (fields_view fields) first (views rows) old new
+  pub all : (new : List KeptColumn) → AddsFields (fields_view (drop place fields)) next (views (drop place rows)) mid new → AddsFields (fields_view fields) first (views rows) old new
 
-pub none_kept : (fields : List Field) (rows : List (Option Value)) (first : ℕ) (old : List Kept) → FieldsKept fields rows first first 0 old old
+pub none_kept : (fields : List Field) (rows : List (Option Value)) (first : ℕ) (old : List KeptColumn) → FieldsKept fields rows first first 0 old old
 none_kept fields rows first old = record { same = refl; left = refl; all = λ new h. h }
 
-module _ (fields : List Field) (rows : List (Option Value)) (first next place : ℕ) (old mid : List Kept) (h : FieldsKept fields rows first next place old mid) where
+module _ (fields : List Field) (rows : List (Option Value)) (first next place : ℕ) (old mid : List KeptColumn) (h : FieldsKept fields rows first next place old mid) where
   module _ (here : Field) (after : ℕ) (lt : place < length fields) (is : here ≡ get_or fields place here) (there : after ≡ next + width (shape here.tree)) where
     left_after : after + widths (fields_view (drop (suc place) fields)) ≡ first + widths (fields_view fields)
     left_after = let l = h.left in omega (arith, l, there, widths_from fields place here lt is)
 
-    abbrev AddsHere : List Cell → List Kept → List Kept → Type 0
+    abbrev AddsHere : List Cell → List KeptColumn → List KeptColumn → Type 0
     AddsHere parts a b = AddsFields (field (string_bytes here.name) (shape here.tree) (fields_view (drop (suc place) fields))) next parts a b
 
     -- a struct has this field
-    pub field_kept : (part : Option Value) (new : List Kept) → place < length rows → part ≡ get_or rows place part → AddsCells (shape here.tree) next (view part ∷ []) mid new → FieldsKept fields rows first after (suc place) old new
+    pub field_kept : (part : Option Value) (new : List KeptColumn) → place < length rows → part ≡ get_or rows place part → AddsCells (shape here.tree) next (view part ∷ []) mid new → FieldsKept fields rows first after (suc place) old new
     field_kept part new l at p =
         let e = fields_from fields place here lt is in
         let d : views (drop place rows) ≡ view part ∷ views (drop (suc place) rows) = ap views (drop-cons rows place part l) ∙ ap (λ x. view x ∷ views (drop (suc place) rows)) (sym at) in

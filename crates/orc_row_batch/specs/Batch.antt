@@ -6,28 +6,28 @@ use Rattle.orc_values.specs.Columns.{cells}
 use Rattle.orc_values.specs.Fits.{RowsFit}
 use Rattle.orc_row_batch.specs.declared.vector.ColumnVector.{ColumnVector}
 use Rattle.orc_row_batch.specs.declared.batch.RowBatch.{RowBatch}
-use Rattle.orc_row_batch.specs.Kept.{Kept, nothing, kept, with_cells, told}
+use Rattle.orc_row_batch.specs.Kept.{KeptColumn, nothing, kept, with_cells, told}
 use Rattle.orc_row_batch.specs.Keeping.{column_at}
 use Rattle.orc_row_batch.specs.RowsFrom.{rows_from}
 
 -- what is kept of each column
-abbrev pub columns_of : List ColumnVector → List Kept
-columns_of vectors = map kept vectors
+abbrev pub kept_columns : List ColumnVector → List KeptColumn
+kept_columns vectors = map kept vectors
 
 -- the cells that a column of a batch says, without the columns below
 abbrev pub column_cells : RowBatch → ℕ → List Cell
-column_cells batch c = told (column_at (columns_of batch.columns.items) c)
+column_cells batch c = told (column_at (kept_columns batch.columns.items) c)
 
 -- the rows of a type that a batch has
 abbrev pub kept_rows : Shape → RowBatch → List Cell
 kept_rows s batch = rows_from s (column_cells batch) 0
 
 -- a batch has a column for each of a type
-abbrev pub HasColumns : Shape → RowBatch → Type 0
-HasColumns s batch = length batch.columns.items ≡ width s
+abbrev pub HasEachColumn : Shape → RowBatch → Type 0
+HasEachColumn s batch = length batch.columns.items ≡ width s
 
 -- a batch has these rows of a type: each of the type's columns keeps its cells of them, and nothing else
 pub record Holds (s : Shape) (rows : List Cell) (batch : RowBatch) : Type 0 where
-  pub columns : HasColumns s batch
+  pub columns : HasEachColumn s batch
   pub fit : RowsFit s rows
-  pub kept_cells : (c : ℕ) → c < width s → column_at (columns_of batch.columns.items) c ≡ with_cells (cells s c rows) (nothing)
+  pub kept_cells : (c : ℕ) → c < width s → column_at (kept_columns batch.columns.items) c ≡ with_cells (cells s c rows) (nothing)

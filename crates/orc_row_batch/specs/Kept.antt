@@ -9,17 +9,17 @@ use Rattle.orc_row_batch.specs.declared.kept_cell.KeptCell.TheVariants as kept_c
 use Rattle.orc_row_batch.specs.declared.vector.ColumnVector.{ColumnVector}
 
 -- a column's cells, the bytes of its texts, and those of its byte strings
-pub record Kept : Type 0 where
+pub record KeptColumn : Type 0 where
   pub cells : List KeptCell
   pub texts : List ℕ
   pub bytes : List ℕ
 
 -- of a column without a cell
-abbrev pub nothing : Kept
+abbrev pub nothing : KeptColumn
 nothing = record { cells = []; texts = []; bytes = [] }
 
 -- what a column's vector keeps
-abbrev pub kept : ColumnVector → Kept
+abbrev pub kept : ColumnVector → KeptColumn
 kept v = record { cells = v.cells.items; texts = string_bytes v.texts; bytes = v.bytes.items }
 
 -- ---- as it is kept
@@ -42,16 +42,16 @@ text_in (leaf (text t)) = t
 text_in _ = []
 
 -- the bytes of a byte string
-abbrev pub bytes_in : Cell → List ℕ
-bytes_in (leaf (bytes b)) = b
-bytes_in _ = []
+abbrev pub binary_in : Cell → List ℕ
+binary_in (leaf (bytes b)) = b
+binary_in _ = []
 
 -- a column's cells with others behind them
-abbrev pub with_cells : List Cell → Kept → Kept
+abbrev pub with_cells : List Cell → KeptColumn → KeptColumn
 with_cells cs k = record {
   cells = k.cells ++ map kept_cell_of cs;
   texts = k.texts ++ flat_map text_in cs;
-  bytes = k.bytes ++ flat_map bytes_in cs;
+  bytes = k.bytes ++ flat_map binary_in cs;
 }
 
 -- ---- as it is told again
@@ -85,5 +85,5 @@ cells_from (k ∷ ks) texts strings =
     cell_of k texts strings ∷ cells_from ks (drop (text_size k) texts) (drop (bytes_size k) strings)
 
 -- the cells that a column says, without the columns below
-abbrev pub told : Kept → List Cell
+abbrev pub told : KeptColumn → List Cell
 told k = cells_from k.cells k.texts k.bytes

@@ -8,7 +8,7 @@ ghost use Rattle.orc_values.specs.Own.{own_cell};
 ghost use Rattle.orc_values.specs.Shapes.{Shape};
 ghost use Rattle.orc_values.specs.Shapes as spec;
 ghost use Rattle.orc_values.specs.Views.{view, shape};
-ghost use Rattle.orc_row_batch.specs.Batch.{HasColumns, Holds, column_cells};
+ghost use Rattle.orc_row_batch.specs.Batch.{HasEachColumn, Holds, column_cells};
 
 use crate::keeping::keep_cell;
 use crate::vector::ColumnVector;
@@ -50,7 +50,7 @@ impl RowBatch {
     /// Lets the rows go, and keeps the room.
     pub fn clear(&mut self)
         // There are no rows any more, whatever a push that was refused left behind.
-        ensures rows { (s : Shape) → HasColumns s self.old → Holds s [] self.new }
+        ensures rows { (s : Shape) → HasEachColumn s self.old → Holds s [] self.new }
         // There are as many columns as before.
         ensures columns { length self.new.columns.items ≡ length self.old.columns.items }
     {
@@ -61,12 +61,12 @@ impl RowBatch {
 
     /// Adds a row of the type. Where memory is refused, the batch is to be cleared, for it may have a part of the row.
     pub fn push(&mut self, tree: &Tree, row: &Row<'_>) -> Result<(), AllocError>
-        requires { HasColumns (shape tree.now) self.old }
+        requires { HasEachColumn (shape tree.now) self.old }
         // Unless memory is refused, a row that fits stands behind the rows that the batch had.
         ensures rows { (rows : List Cell) → Holds (shape tree.now) rows self.old → fits (view row.now) (shape tree.now) ≡ true
             → OnOk result (Holds (shape tree.now) (rows ++ view row.now ∷ []) self.new) }
         // There is a column for each that there was, also where memory is refused.
-        ensures columns { HasColumns (shape tree.now) self.new }
+        ensures columns { HasEachColumn (shape tree.now) self.new }
     {
         keep_cell(tree, row, 0, &mut self.columns)?;
         Ok(())

@@ -2,7 +2,7 @@
 ghost use Rattle.std.specs.Prelude.{◌≡◌, ◌+◌, ◌≤◌, ◌<◌, [], ◌∷◌, length, map, IfOk, OnOk};
 ghost use Rattle.orc_values.specs.Shapes.{width, widths};
 ghost use Rattle.orc_values.specs.Views.{view, views, paired, shape, fields as fields_view};
-ghost use Rattle.orc_row_batch.specs.Batch.{columns_of};
+ghost use Rattle.orc_row_batch.specs.Batch.{kept_columns};
 ghost use Rattle.orc_row_batch.specs.Keeping.{AddsOne, AddsCells, AddsFields};
 
 use crate::vector::ColumnVector;
@@ -16,7 +16,7 @@ fn keep_one(
     cell: &Row<'_>,
 ) -> Result<(), AllocError>
     requires { column < length columns.old.items }
-    ensures kept { OnOk result (AddsOne column (view cell.now) (columns_of columns.old.items) (columns_of columns.new.items)) }
+    ensures kept { OnOk result (AddsOne column (view cell.now) (kept_columns columns.old.items) (kept_columns columns.new.items)) }
     ensures wide { length columns.new.items ≡ length columns.old.items }
 {
     columns[column].push(own_of(cell))
@@ -32,7 +32,7 @@ pub(crate) fn keep_cell(
 ) -> Result<usize, AllocError>
     requires { column + width (shape tree.now) ≤ length columns.old.items }
     ensures kept { OnOk result (AddsCells (shape tree.now) column (view cell.now ∷ [])
-        (columns_of columns.old.items) (columns_of columns.new.items)) }
+        (kept_columns columns.old.items) (kept_columns columns.new.items)) }
     ensures next { IfOk result (λ next. next ≡ column + width (shape tree.now)) }
     ensures wide { length columns.new.items ≡ length columns.old.items }
 {
@@ -58,7 +58,7 @@ fn keep_elements(
 ) -> Result<usize, AllocError>
     requires { column + width (shape element.now) ≤ length columns.old.items }
     ensures kept { OnOk result (AddsCells (shape element.now) column (views parts.now)
-        (columns_of columns.old.items) (columns_of columns.new.items)) }
+        (kept_columns columns.old.items) (kept_columns columns.new.items)) }
     ensures next { IfOk result (λ next. next ≡ column + width (shape element.now)) }
     ensures wide { length columns.new.items ≡ length columns.old.items }
 {
@@ -78,7 +78,7 @@ fn keep_keys(
 ) -> Result<usize, AllocError>
     requires { column + width (shape key.now) ≤ length columns.old.items }
     ensures kept { OnOk result (AddsCells (shape key.now) column (map (λ p. p.0) (map paired pairs.now))
-        (columns_of columns.old.items) (columns_of columns.new.items)) }
+        (kept_columns columns.old.items) (kept_columns columns.new.items)) }
     ensures next { IfOk result (λ next. next ≡ column + width (shape key.now)) }
     ensures wide { length columns.new.items ≡ length columns.old.items }
 {
@@ -98,7 +98,7 @@ fn keep_values(
 ) -> Result<usize, AllocError>
     requires { column + width (shape value.now) ≤ length columns.old.items }
     ensures kept { OnOk result (AddsCells (shape value.now) column (map (λ p. p.1) (map paired pairs.now))
-        (columns_of columns.old.items) (columns_of columns.new.items)) }
+        (kept_columns columns.old.items) (kept_columns columns.new.items)) }
     ensures next { IfOk result (λ next. next ≡ column + width (shape value.now)) }
     ensures wide { length columns.new.items ≡ length columns.old.items }
 {
@@ -118,7 +118,7 @@ fn keep_fields(
 ) -> Result<usize, AllocError>
     requires { column + widths (fields_view fields.now) ≤ length columns.old.items }
     ensures kept { OnOk result (AddsFields (fields_view fields.now) column (views parts.now)
-        (columns_of columns.old.items) (columns_of columns.new.items)) }
+        (kept_columns columns.old.items) (kept_columns columns.new.items)) }
     ensures next { IfOk result (λ next. next ≡ column + widths (fields_view fields.now)) }
     ensures wide { length columns.new.items ≡ length columns.old.items }
 {

@@ -1,7 +1,7 @@
 //! A column's cells as they are kept.
 ghost use Rattle.std.specs.Prelude.{◌≡◌, ◌++◌, [], ◌∷◌, map, length, string_bytes, IfOk, OnOk};
 ghost use Rattle.orc_values.specs.Own.{own_cell};
-ghost use Rattle.orc_row_batch.specs.Kept.{kept, kept_cell_of, text_in, bytes_in, nothing, with_cells, told};
+ghost use Rattle.orc_row_batch.specs.Kept.{kept, kept_cell_of, text_in, binary_in, nothing, with_cells, told};
 
 use crate::blocks::Blocks;
 use crate::kept_cell::KeptCell;
@@ -50,7 +50,7 @@ impl ColumnVector {
     fn push_bytes(&mut self, own: Own<'_>) -> Result<KeptCell, AllocError>
         ensures cell { IfOk result (λ cell. cell ≡ kept_cell_of (own_cell own.entry)) }
         ensures texts { OnOk result (string_bytes self.new.texts ≡ string_bytes self.old.texts ++ text_in (own_cell own.entry)) }
-        ensures bytes { OnOk result (self.new.bytes.items ≡ self.old.bytes.items ++ bytes_in (own_cell own.entry)) }
+        ensures bytes { OnOk result (self.new.bytes.items ≡ self.old.bytes.items ++ binary_in (own_cell own.entry)) }
         ensures cells { self.new.cells ≡ self.old.cells }
     {
         match own {

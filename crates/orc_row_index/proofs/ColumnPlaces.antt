@@ -1,49 +1,24 @@
 -- The places of a column: there in streams that spell its cells, one list behind some cells, and right for a reader.
-use Rattle.std.proofs.Common.{◌≡◌, ℕ, suc, ◌+◌, ◌≤◌, min, Bool, true, false, List, [], ◌∷◌, ◌++◌, length, map, refl, sym, ap, ◌∙◌, arith, length-append, zero-add}
+use Rattle.std.proofs.Common.{◌≡◌, ℕ, suc, ◌+◌, ◌≤◌, Bool, true, false, List, [], ◌∷◌, ◌++◌, length, map, refl, sym, ap, ◌∙◌, arith, length-append}
 use Rattle.std.specs.List.{AllZip}
 use Rattle.std.proofs.lemmas.List.{length-map}
-use Rattle.std.proofs.lemmas.List.Sums.{sum_by-append, sum_by-cons}
+use Rattle.std.proofs.lemmas.List.Sums.{sum_by-cons}
 use Rattle.orc_positions.proofs.BitPositionLemmas.{has_bytes}
-use Rattle.orc_values.specs.Cells.{Cell, null, leaf, list, struct, pairs, is_value, parts, pairs_in, values}
+use Rattle.orc_values.specs.Cells.{Cell, is_value, parts, pairs_in, values}
 use Rattle.orc_values.specs.Shapes.{Shape, scalar, list_of, map_of, struct_of}
 use Rattle.orc_values.specs.declared.kind.Scalar.{Scalar}
 use Rattle.orc_values.specs.declared.kind.Scalar.TheVariants as kind
-use Rattle.orc_values.proofs.Together.{values-append}
 use Rattle.orc_column_reader.specs.Columns.{IsBool, IsByte, IsInt, IsDate, IsText, IsBinary}
-use Rattle.orc_column_reader.specs.Spellings.{joined, size}
+use Rattle.orc_column_reader.specs.Spellings.{concatenated, size}
 use Rattle.orc_column_reader.specs.Stripe.{Streams, has_dictionary, Marks, SpellsTexts, SpellsScalar, SpellsValues, IsColumn}
 use Rattle.orc_row_index.specs.RunStreams.{present_runs, text_runs, scalar_runs, value_runs, text_octets, scalar_octets, value_bytes}
-use Rattle.orc_row_index.specs.Positions.{octets_in, octets, octets_position, AreReadPositions, AreWrittenPositions}
-use Rattle.orc_row_index.specs.Walking.{most, HasPosition, HasOctets, AreCounted, HavePositions}
-use Rattle.orc_row_index.specs.declared.counts.Counts.{Counts}
+use Rattle.orc_row_index.specs.Positions.{octets_position, AreReadPositions, AreWrittenPositions}
+use Rattle.orc_row_groups.specs.Counts.{octets_in, octets}
+use Rattle.orc_row_index.specs.Walking.{HasPosition, HasOctets, HavePositions}
 use Rattle.orc_row_index.proofs.StreamPlaces.{place_read, one_stream_place}
-
--- ---- counts
-
-pub values_more : (a b : List Cell) → length (values (a ++ b)) ≡ length (values a) + length (values b)
-values_more a b = ap length (values-append a b) ∙ length-append (values a) (values b)
-
-pub octets_more : (a b : List Cell) → octets (a ++ b) ≡ octets a + octets b
-octets_more a b = sum_by-append octets_in a b
-
--- the counts of more cells
-pub counted_more : (k m : Counts) (front cs : List Cell) → AreCounted k front → m.cells ≡ k.cells + length cs → m.values ≡ k.values + length (values cs)
-    → m.octets ≡ min most (k.octets + octets cs) → AreCounted m (front ++ cs)
-counted_more k m front cs h c v o = record {
-  cells_are = omega (arith, h.cells_are, c, length-append front cs);
-  values_are = omega (arith, h.values_are, v, values_more front cs);
-  octets_are = omega (arith, h.octets_are, o, octets_more front cs);
-}
+use Rattle.orc_row_groups.proofs.Counted.{values_more, octets_more, octets_of_values}
 
 -- ---- a column's streams have the values that its cells have
-
-pub octets_of_values : (cs : List Cell) → octets (values cs) ≡ octets cs
-octets_of_values [] = refl
-octets_of_values (null ∷ cs) = octets_of_values cs ∙ sym (sum_by-cons octets_in null cs ∙ zero-add (octets cs))
-octets_of_values (leaf a ∷ cs) = sum_by-cons octets_in (leaf a) (values cs) ∙ ap (λ (n : ℕ). octets_in (leaf a) + n) (octets_of_values cs) ∙ sym (sum_by-cons octets_in (leaf a) cs)
-octets_of_values (list xs ∷ cs) = sum_by-cons octets_in (list xs) (values cs) ∙ ap (λ (n : ℕ). octets_in (list xs) + n) (octets_of_values cs) ∙ sym (sum_by-cons octets_in (list xs) cs)
-octets_of_values (struct xs ∷ cs) = sum_by-cons octets_in (struct xs) (values cs) ∙ ap (λ (n : ℕ). octets_in (struct xs) + n) (octets_of_values cs) ∙ sym (sum_by-cons octets_in (struct xs) cs)
-octets_of_values (pairs ps ∷ cs) = sum_by-cons octets_in (pairs ps) (values cs) ∙ ap (λ (n : ℕ). octets_in (pairs ps) + n) (octets_of_values cs) ∙ sym (sum_by-cons octets_in (pairs ps) cs)
 
 pub stand_long : {X : Type 0} (stands : X → Cell → Type 0) (xs : List X) (cs : List Cell) → AllZip stands xs cs → length xs ≡ length cs
 stand_long stands [] [] h = refl
@@ -52,19 +27,19 @@ stand_long stands (x ∷ xs) [] h = absurd h
 stand_long stands (x ∷ xs) (c ∷ cs) h = ap suc (stand_long stands xs cs h.1)
 
 -- the bytes that stand for cells are as many as the cells have
-stand_octets : (stands : List ℕ → Cell → Type 0) → ((t : List ℕ) (c : Cell) → stands t c → octets_in c ≡ length t) → (ts : List (List ℕ)) (cs : List Cell) → AllZip stands ts cs → length (joined ts) ≡ octets cs
+stand_octets : (stands : List ℕ → Cell → Type 0) → ((t : List ℕ) (c : Cell) → stands t c → octets_in c ≡ length t) → (ts : List (List ℕ)) (cs : List Cell) → AllZip stands ts cs → length (concatenated ts) ≡ octets cs
 stand_octets stands long [] [] h = refl
 stand_octets stands long [] (c ∷ cs) h = absurd h
 stand_octets stands long (t ∷ ts) [] h = absurd h
 stand_octets stands long (t ∷ ts) (c ∷ cs) h =
     let first = long t c h.0 in
     let rest = stand_octets stands long ts cs h.1 in
-    omega (arith, length-append t (joined ts), first, rest, sum_by-cons octets_in c cs)
+    omega (arith, length-append t (concatenated ts), first, rest, sum_by-cons octets_in c cs)
 
-text_long : (t : List ℕ) (c : Cell) → IsText t c → octets_in c ≡ length t
+pub text_long : (t : List ℕ) (c : Cell) → IsText t c → octets_in c ≡ length t
 text_long t c h = ap octets_in h.1
 
-binary_long : (t : List ℕ) (c : Cell) → IsBinary t c → octets_in c ≡ length t
+pub binary_long : (t : List ℕ) (c : Cell) → IsBinary t c → octets_in c ≡ length t
 binary_long t c h = ap octets_in h.1
 
 present_there : (b : List ℕ) (marks : List Bool) (n : ℕ) → Marks b marks → n ≤ length marks → HasPosition (present_runs b) n

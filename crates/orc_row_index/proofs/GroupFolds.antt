@@ -1,6 +1,6 @@
 -- Cells are counted group by group, and the groups come together to all of them.
 use Rattle.std.specs.Prelude.{All}
-use Rattle.std.proofs.Common.{◌≡◌, ℕ, zero, suc, ◌+◌, ◌-◌, ◌≤◌, List, [], ◌∷◌, length, take, drop, refl, sym, ap, ◌∙◌, subst, arith, length-drop}
+use Rattle.std.proofs.Common.{◌≡◌, ℕ, ◌+◌, ◌-◌, ◌≤◌, List, length, take, drop, sym, ap, ◌∙◌, subst, arith, length-drop}
 use Rattle.std.proofs.lemmas.List.{take_all}
 use Rattle.std.proofs.lemmas.List.Elements.{All-take, All-drop}
 use Rattle.orc_values.specs.Cells.{Cell}
@@ -8,13 +8,17 @@ use Rattle.orc_values.specs.Shapes.{Shape}
 use Rattle.orc_values.specs.declared.own.Own.{Own}
 use Rattle.orc_column_reader.specs.declared.starting.ColumnStreams.{ColumnStreams}
 use Rattle.orc_stats.specs.Tallies.{Measure, Kept, together, cells_kept}
-use Rattle.orc_stats.specs.TallyLaws.{cells_kept-append, cells_kept_count}
-use Rattle.orc_row_index.specs.Bounds.{bound_at, AreBounds, before_group, group_of}
-use Rattle.orc_row_index.specs.OwnCells.{own_cells, AreSpelledOwn}
-use Rattle.orc_row_index.specs.declared.counts.Counts.{Counts}
+use Rattle.orc_stats.specs.laws.TallyLaws.{cells_kept-append, cells_kept_count}
+use Rattle.orc_row_groups.specs.Bounds.{bound_at, AreBounds, before_group, group_of}
+use Rattle.orc_row_index.specs.OwnCells.{AreSpelledOwn}
+use Rattle.orc_row_groups.specs.OwnCells.{own_cells}
+use Rattle.orc_row_groups.specs.declared.counts.Counts.{Counts}
 use Rattle.orc_row_index.specs.declared.placed.PlacedStreams.{PlacedStreams}
 use Rattle.orc_row_index.specs.declared.walk.Walk.{Walk}
-use Rattle.orc_row_index.proofs.Groups.{Stands, group_behind, take_short, values_few}
+use Rattle.orc_row_index.proofs.Groups.{Stands}
+use Rattle.orc_row_groups.proofs.Groups.{group_behind, take_short}
+use Rattle.orc_values.proofs.Lists.{values_few}
+use Rattle.orc_row_groups.proofs.BoundLemmas.{bound_past}
 
 -- what is so of each cell is so of each of some of them
 pub part_so : (P : Cell → Type 0) (cells part : List Cell) (n at : ℕ) → part ≡ take n (drop at cells) → All P cells → All P part
@@ -22,12 +26,6 @@ part_so P cells part n at e h = subst (λ (cs : List Cell). All P cs) (sym e) (A
 
 pub part_short : (cells part : List Cell) (n at : ℕ) → part ≡ take n (drop at cells) → length part ≤ length cells
 part_short cells part n at e = omega (arith, ap length e, take_short n (drop at cells), length-drop at cells)
-
--- behind the last group comes nothing
-bound_last : (count : ℕ) (bounds : List ℕ) (group : ℕ) → length bounds ≤ group → bound_at count bounds group ≡ count
-bound_last count [] group h = refl
-bound_last count (b ∷ bs) zero h = absurd (omega (arith, h))
-bound_last count (b ∷ bs) (suc group) h = bound_last count bs group (omega (arith, h))
 
 module _ {P : Type 0} (m : Measure P) where
   -- what is kept of the cells before a group
@@ -52,7 +50,7 @@ module _ {P : Type 0} (m : Measure P) where
 
   pub kept_all : (cells : List Cell) (bounds : List ℕ) (group : ℕ) (whole : Kept P) → length bounds ≤ group → whole ≡ cells_kept m (before_group cells bounds group) → whole ≡ cells_kept m cells
   kept_all cells bounds group whole all so =
-      so ∙ ap (λ (n : ℕ). cells_kept m (take n cells)) (bound_last (length cells) bounds group all) ∙ ap (cells_kept m) (take_all (length cells) cells (omega arith))
+      so ∙ ap (λ (n : ℕ). cells_kept m (take n cells)) (bound_past (length cells) bounds group all) ∙ ap (cells_kept m) (take_all (length cells) cells (omega arith))
 
   -- In front of a group: whatever the cells are of which this is said, the groups before it have their entries; and the
   -- cells before it are counted.

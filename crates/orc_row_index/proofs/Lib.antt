@@ -7,3 +7,4 @@ pub mod StatWhole
 pub mod WrittenIndex
 pub mod PositionParts
 pub mod GroupFolds
+pub mod SameStreams

@@ -2,11 +2,12 @@
 use Rattle.std.proofs.Common.{◌≡◌, ℕ, ◌+◌, Option, Some, None, List, ◌++◌, length, take, drop, refl, sym, ap, ◌∙◌, subst, arith, length-append}
 use Rattle.std.proofs.Math.Seq.{take-append_seam, drop-append_seam}
 use Rattle.orc_values.specs.Cells.{Cell, values}
-use Rattle.orc_row_index.specs.Positions.{IsPosition, ArePositions, ValuePositions, octets, octets_position, octets_size, reader, position_size}
+use Rattle.orc_row_index.specs.Positions.{IsPosition, ArePositions, ValuePositions, octets_position, octets_size, reader, position_size}
+use Rattle.orc_row_groups.specs.Counts.{octets}
 use Rattle.orc_row_index.specs.RunStreams.{RunStream, no_stream, bit_runs, byte_runs, number_runs}
 
 -- a position has so many numbers
-place_long : (r : RunStream) (n : ℕ) (ps : List ℕ) → IsPosition reader r n ps → length ps ≡ position_size r
+pub place_long : (r : RunStream) (n : ℕ) (ps : List ℕ) → IsPosition reader r n ps → length ps ≡ position_size r
 place_long no_stream n ps h = ap length h
 place_long (bit_runs b) n ps h = ap length h.3
 place_long (byte_runs b) n ps h = ap length h.2

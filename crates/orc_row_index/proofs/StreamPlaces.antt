@@ -1,7 +1,7 @@
 -- Places in one stream, whatever its runs are of.
 use Rattle.std.proofs.Common.{◌≡◌, ℕ, ◌≤◌, List, [], ◌∷◌, sym, ◌∙◌, arith}
 use Rattle.orc_rle.specs.ByteRun.{IsByteRun}
-use Rattle.orc_rle.specs.ByteLaws.{one_byte_run, byte_run_some}
+use Rattle.orc_rle.proofs.ByteLaws.{one_byte_run, byte_run_some}
 use Rattle.orc_positions.specs.RunStarts.{start_of_stream}
 use Rattle.orc_positions.specs.declared.run_start.RunStart.{RunStart}
 use Rattle.orc_positions.proofs.PositionLemmas.{one_place}

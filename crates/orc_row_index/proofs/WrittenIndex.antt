@@ -1,5 +1,5 @@
 -- A written index: there is one, it reads back, and it is right for a reader.
-use Rattle.std.proofs.Common.{◌≡◌, ℕ, suc, ◌<◌, ◌^◌, true, Option, Some, List, [], ◌∷◌, length, slice_get, refl, sym, ap, ◌∙◌, subst, arith}
+use Rattle.std.proofs.Common.{◌≡◌, ℕ, suc, ◌<◌, ◌^◌, Option, Some, List, [], ◌∷◌, length, slice_get, refl, sym, ap, ◌∙◌, subst, arith}
 use Rattle.std.specs.List.{AllByRecursion}
 use Rattle.std.specs.Option.{IfSome}
 use Rattle.orc_wire.specs.declared.column_stats.ColumnStats.{ColumnStats}
@@ -9,28 +9,24 @@ use Rattle.orc_wire.proofs.WholeLaws.{entry_whole, index_whole}
 use Rattle.orc_values.specs.Cells.{Cell}
 use Rattle.orc_values.specs.Fits.{RowsFit}
 use Rattle.orc_values.specs.Shapes.{Shape}
-use Rattle.orc_stats.specs.Kinds.{is_of, kind_of}
+use Rattle.orc_stats.specs.Kinds.{kind_of}
 use Rattle.orc_stats.specs.Messages.{message_of, IsStat}
 use Rattle.orc_stats.specs.Statistics.{stat}
-use Rattle.orc_stats.proofs.Fitting.{cell_kind}
+use Rattle.orc_stats.proofs.Fitting.{are_of_kind}
 use Rattle.orc_stats.proofs.Normal.{stat-normal}
 use Rattle.orc_stats.proofs.ReadBack.{reads_back}
 use Rattle.orc_column_reader.specs.Stripe.{Streams}
-use Rattle.orc_row_index.specs.Bounds.{before_group, group_of}
+use Rattle.orc_row_groups.specs.Bounds.{before_group, group_of}
 use Rattle.orc_row_index.specs.RowIndex.{IsWrittenEntry, AreEntries, IsWrittenIndex, IsRightIndex}
 use Rattle.orc_row_index.proofs.ColumnPlaces.{places_read, one_places}
-use Rattle.orc_row_index.proofs.Groups.{group_fits, group_few}
+use Rattle.orc_row_groups.proofs.Groups.{group_fits, group_few}
 use Rattle.orc_row_index.proofs.StatWhole.{stat_whole}
 
 -- ---- it reads back
 
-pub cells_of_kind : (s : Shape) (cs : List Cell) → RowsFit s cs → AllByRecursion (λ c. is_of (kind_of s) c ≡ true) cs
-cells_of_kind s [] h = tt
-cells_of_kind s (c ∷ cs) h = (cell_kind c s h.0, cells_of_kind s cs h.1)
-
 group_stat : (s : Shape) (cells : List Cell) (bounds : List ℕ) (g : ℕ) → RowsFit s cells → length cells < 2 ^ 31 → IsStat (kind_of s) (stat (kind_of s) (group_of cells bounds g))
 group_stat s cells bounds g fit few =
-    stat-normal (kind_of s) (group_of cells bounds g) (cells_of_kind s (group_of cells bounds g) (group_fits s cells bounds g fit)) (let k = group_few cells bounds g in omega (arith, k, few))
+    stat-normal (kind_of s) (group_of cells bounds g) (are_of_kind s (group_of cells bounds g) (group_fits s cells bounds g fit)) (let k = group_few cells bounds g in omega (arith, k, few))
 
 all_by_get : (P : RowIndexEntry → Type 0) (es : List RowIndexEntry) → ((g : ℕ) (e : RowIndexEntry) → slice_get es g ≡ Some e → P e) → AllByRecursion P es
 all_by_get P [] h = tt

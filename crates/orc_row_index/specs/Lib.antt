@@ -1,6 +1,5 @@
 pub mod RunStreams
 pub mod Positions
-pub mod Bounds
 pub mod RowIndex
 pub mod Walking
 pub mod OwnCells

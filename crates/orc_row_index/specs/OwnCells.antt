@@ -1,22 +1,13 @@
--- A column's cells as the column itself says them, in a slice (ORC specification, "Column Encodings").
-use Rattle.std.specs.Prelude.{◌≡◌, List, map}
+-- What a column says of its cells, where its streams spell these (ORC specification, "Column Encodings").
+use Rattle.std.specs.Prelude.{List}
 use Rattle.orc_values.specs.Cells.{Cell}
-use Rattle.orc_values.specs.Childless.{childless}
 use Rattle.orc_values.specs.Fits.{RowsFit}
-use Rattle.orc_values.specs.Own.{own_cell}
 use Rattle.orc_values.specs.Shapes.{Shape}
 use Rattle.orc_values.specs.declared.own.Own.{Own}
 use Rattle.orc_column_reader.specs.Starting.{AreStreams}
 use Rattle.orc_column_reader.specs.Stripe.{Streams, IsColumn}
 use Rattle.orc_column_reader.specs.declared.starting.ColumnStreams.{ColumnStreams}
-
--- the cells that are said: of a list or a map its size, of a struct that it is there
-abbrev pub own_cells : List Own → List Cell
-own_cells owns = map own_cell owns
-
--- this is what their own column says of the cells
-abbrev pub AreOwn : List Own → List Cell → Type 0
-AreOwn owns cells = own_cells owns ≡ map childless cells
+use Rattle.orc_row_groups.specs.OwnCells.{AreOwn}
 
 -- this is what a column says of its cells, which fit its type, and its streams spell them
 pub record AreSpelledOwn (s : Shape) (streams : ColumnStreams) (owns : List Own) (cells : List Cell) : Type 0 where

@@ -1,14 +1,15 @@
 -- The positions of a column behind some of its cells, in the order of its streams
 -- (ORC specification, "Row Group Index").
-use Rattle.std.specs.Prelude.{◌≡◌, ℕ, Option, Some, None, List, [], ◌∷◌, ◌++◌, length, sum_by}
+use Rattle.std.specs.Prelude.{◌≡◌, ℕ, Option, Some, None, List, [], ◌∷◌, ◌++◌, length}
 use Rattle.orc_rle.specs.ByteRun.{IsByteRun}
 use Rattle.orc_positions.specs.Position.{Begins, IsWriterPosition}
 use Rattle.orc_positions.specs.BitPosition.{BeginsBits, IsWriterBitPosition}
-use Rattle.orc_values.specs.Cells.{Cell, leaf, text, bytes, values}
+use Rattle.orc_values.specs.Cells.{Cell, values}
 use Rattle.orc_values.specs.Shapes.{Shape}
 use Rattle.orc_column_reader.specs.Numbers.{is_run}
 use Rattle.orc_column_reader.specs.Stripe.{Streams, in_present}
 use Rattle.orc_row_index.specs.RunStreams.{RunStream, no_stream, bit_runs, byte_runs, number_runs, present_runs, value_runs, value_bytes}
+use Rattle.orc_row_groups.specs.Counts.{octets}
 
 -- A position among runs is two numbers: an offset, where a run begins or the stream ends, and how many of the values
 -- from there on are passed.
@@ -44,16 +45,6 @@ position_size no_stream = 0
 position_size (bit_runs stream) = 3
 position_size (byte_runs stream) = 2
 position_size (number_runs version sign stream) = 2
-
--- how many bytes a text has, or a byte string
-abbrev pub octets_in : Cell → ℕ
-octets_in (leaf (text t)) = length t
-octets_in (leaf (bytes t)) = length t
-octets_in _ = 0
-
--- how many those among the cells have together
-abbrev pub octets : List Cell → ℕ
-octets cells = sum_by octets_in cells
 
 -- bytes as they are have one number for a position: how many come before
 abbrev pub octets_position : Option (List ℕ) → ℕ → List ℕ
@@ -93,5 +84,5 @@ ValuePositions content own before positions =
     × IsPosition reader own (length (values before)) last
 
 -- such numbers are behind the old ones
-abbrev pub Adds : (List ℕ → Type 0) → List ℕ → List ℕ → Type 0
-Adds are old new = (more : List ℕ) × are more × (new ≡ old ++ more)
+abbrev pub AddsPositions : (List ℕ → Type 0) → List ℕ → List ℕ → Type 0
+AddsPositions are old new = (more : List ℕ) × are more × (new ≡ old ++ more)

@@ -1,5 +1,5 @@
 -- The row index of a column (ORC specification, "Row Group Index", "Column Statistics").
-use Rattle.std.specs.Prelude.{◌≡◌, ℕ, Some, List, length, slice_get}
+use Rattle.std.specs.Prelude.{◌≡◌, ℕ, Some, List, length, slice_get, true}
 use Rattle.orc_wire.specs.declared.column_stats.ColumnStats.{ColumnStats}
 use Rattle.orc_wire.specs.declared.row_index.RowIndexEntry.{RowIndexEntry}
 use Rattle.orc_wire.specs.declared.row_index.RowIndexMsg.{RowIndexMsg}
@@ -7,13 +7,18 @@ use Rattle.orc_wire.specs.CanonicalMessages.{row_index_text}
 use Rattle.orc_wire.specs.Messages.{row_index}
 use Rattle.orc_wire.specs.Spells.{Spells}
 use Rattle.orc_values.specs.Cells.{Cell}
-use Rattle.orc_values.specs.Shapes.{Shape}
+use Rattle.orc_values.specs.Shapes.{Shape, shape_at}
 use Rattle.orc_stats.specs.Kinds.{kind_of}
 use Rattle.orc_stats.specs.Messages.{message_of, stat_read}
 use Rattle.orc_stats.specs.Statistics.{stat}
-use Rattle.orc_column_reader.specs.Stripe.{Streams}
-use Rattle.orc_row_index.specs.Bounds.{before_group, group_of}
+use Rattle.orc_column_reader.specs.Stripe.{Streams, columns_of}
+use Rattle.orc_row_groups.specs.Bounds.{before_group, group_of}
 use Rattle.orc_row_index.specs.Positions.{AreReadPositions, AreWrittenPositions}
+use Rattle.orc_wire.specs.declared.stripe_footer.StripeFooter.{StripeFooter}
+use Rattle.orc_wire.specs.StreamKinds.{ROW_INDEX}
+use Rattle.orc_values.specs.Columns.{cells}
+use Rattle.orc_directory.specs.Directory.{has_stream, slice}
+use Rattle.orc_row_groups.specs.Groups.{starts_of_groups, bounds_of}
 
 -- the entry of a group: the positions behind the cells before it, and the statistic of its own
 pub record IsWrittenEntry (s : Shape) (x : Streams) (before group : List Cell) (entry : RowIndexEntry) : Type 0 where
@@ -54,3 +59,10 @@ pub record IsRightIndex (s : Shape) (x : Streams) (cells : List Cell) (bounds te
   pub statistics : (g : ℕ) (entry : RowIndexEntry)
       → slice_get message.entries g ≡ Some entry
       → SaysStat s (group_of cells bounds g) entry
+
+-- the directory lists an index of column c, and it is right for a reader of the stripe
+abbrev pub HasRightIndex : ℕ → Shape → List Cell → StripeFooter → List ℕ → ℕ → Type 0
+HasRightIndex stride s rows footer bytes c =
+    (has_stream c ROW_INDEX footer.streams ≡ true)
+    × IsRightIndex (shape_at s c) (columns_of footer bytes c) (cells s c rows)
+    (bounds_of s c rows (starts_of_groups stride (length rows))) (slice c ROW_INDEX footer.streams bytes)

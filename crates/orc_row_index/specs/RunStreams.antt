@@ -7,8 +7,8 @@ use Rattle.orc_values.specs.declared.kind.Scalar.{Scalar}
 use Rattle.orc_values.specs.declared.kind.Scalar.TheVariants as kind
 use Rattle.orc_rle.specs.declared.sign.Rle.{Rle}
 use Rattle.orc_column_reader.specs.Stripe.{Streams, version, has_dictionary, in_data, in_length}
-use Rattle.orc_column_reader.specs.declared.fault.StreamKind.{StreamKind}
-use Rattle.orc_column_reader.specs.declared.fault.StreamKind.TheVariants as stream
+use Rattle.orc_directory.specs.declared.fault.StreamKind.{StreamKind}
+use Rattle.orc_directory.specs.declared.fault.StreamKind.TheVariants as stream
 
 -- a stream of runs, by what they are of; a column may lack it
 pub data RunStream : Type 0 where
@@ -52,19 +52,19 @@ kind_of_texts true = stream.Data
 kind_of_texts false = stream.Length
 
 -- which stream of a column of single values has runs
-abbrev pub kind_of_scalar : Scalar → Bool → StreamKind
-kind_of_scalar kind.Boolean d = stream.Data
-kind_of_scalar kind.Byte d = stream.Data
-kind_of_scalar kind.Short d = stream.Data
-kind_of_scalar kind.Int d = stream.Data
-kind_of_scalar kind.Long d = stream.Data
-kind_of_scalar kind.Date d = stream.Data
-kind_of_scalar kind.Binary d = stream.Length
-kind_of_scalar kind.String d = kind_of_texts d
+abbrev pub run_stream_kind : Scalar → Bool → StreamKind
+run_stream_kind kind.Boolean d = stream.Data
+run_stream_kind kind.Byte d = stream.Data
+run_stream_kind kind.Short d = stream.Data
+run_stream_kind kind.Int d = stream.Data
+run_stream_kind kind.Long d = stream.Data
+run_stream_kind kind.Date d = stream.Data
+run_stream_kind kind.Binary d = stream.Length
+run_stream_kind kind.String d = kind_of_texts d
 
 -- which stream has the runs beside PRESENT
 abbrev pub kind_of_values : Shape → Bool → StreamKind
-kind_of_values (scalar k o) d = kind_of_scalar k d
+kind_of_values (scalar k o) d = run_stream_kind k d
 kind_of_values (list_of s o) d = stream.Length
 kind_of_values (map_of k v o) d = stream.Length
 kind_of_values (struct_of fs o) d = stream.Data

@@ -1,5 +1,5 @@
 -- A walk over the streams of a column, from group to group.
-use Rattle.std.specs.Prelude.{◌≡◌, ℕ, ◌-◌, ◌/◌, ◌^◌, ◌≤◌, min, Option, Some, None, option_map, List, length}
+use Rattle.std.specs.Prelude.{◌≡◌, ℕ, ◌/◌, ◌≤◌, Option, Some, None, option_map, List, length}
 use Rattle.std.specs.Borrow.{Bor}
 use Rattle.orc_rle.specs.ByteRun.{IsByteRun}
 use Rattle.orc_positions.specs.Position.{HasValues}
@@ -10,10 +10,9 @@ use Rattle.orc_values.specs.Shapes.{Shape}
 use Rattle.orc_column_reader.specs.Numbers.{is_run}
 use Rattle.orc_column_reader.specs.Stripe.{Streams, in_present}
 use Rattle.orc_row_index.specs.RunStreams.{RunStream, no_stream, bit_runs, byte_runs, number_runs, present_runs, value_runs, value_bytes}
-use Rattle.orc_row_index.specs.Positions.{octets}
+use Rattle.orc_row_groups.specs.Counts.{octets}
 use Rattle.orc_row_index.specs.declared.run_bytes.RunBytes.{RunBytes}
 use Rattle.orc_row_index.specs.declared.run_bytes.RunBytes.TheVariants as run_bytes
-use Rattle.orc_row_index.specs.declared.counts.Counts.{Counts}
 use Rattle.orc_row_index.specs.declared.walk.Walk.{Walk}
 use Rattle.orc_row_index.specs.declared.placed.PlacedStreams.{PlacedStreams}
 
@@ -53,16 +52,6 @@ BeginsBefore (number_runs version sign stream) run_start n =
 abbrev pub HasOctets : Option (List ℕ) → ℕ → Type 0
 HasOctets None n = Unit {0}
 HasOctets (Some stream) n = n ≤ length stream
-
--- the most that is counted
-abbrev pub most : ℕ
-most = 2 ^ 64 - 1
-
--- The cells are so many. Bytes are counted up to the most: where they are one stream, they are no more.
-pub record AreCounted (counts : Counts) (cells : List Cell) : Type 0 where
-  pub cells_are : counts.cells ≡ length cells
-  pub values_are : counts.values ≡ length (values cells)
-  pub octets_are : counts.octets ≡ min most (octets cells)
 
 -- the streams have the values of these cells
 pub record HavePositions (present : RunStream) (content : Option (List ℕ)) (own : RunStream)

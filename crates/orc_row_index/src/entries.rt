@@ -7,20 +7,18 @@ ghost use Rattle.orc_stats.specs.Kinds.{kind_of};
 ghost use Rattle.orc_stats.specs.Statistics.{stat};
 ghost use Rattle.orc_column_reader.specs.Starting.{AreStreams};
 ghost use Rattle.orc_column_reader.specs.Stripe.{Streams};
-ghost use Rattle.orc_row_index.specs.Bounds.{AreBounds};
-ghost use Rattle.orc_row_index.specs.OwnCells.{AreOwn, AreSpelledOwn};
-ghost use Rattle.orc_row_index.specs.Positions.{Adds};
+ghost use Rattle.orc_row_groups.specs.Bounds.{AreBounds};
+ghost use Rattle.orc_row_index.specs.OwnCells.{AreSpelledOwn};
+ghost use Rattle.orc_row_groups.specs.OwnCells.{AreOwn};
+ghost use Rattle.orc_row_index.specs.Positions.{AddsPositions};
 ghost use Rattle.orc_row_index.specs.RowIndex.{IsWrittenIndex};
 
-use crate::between::owns_between;
-use crate::counting::counts_behind;
-use crate::counts::Counts;
 use crate::entry_text::put_entry;
-use crate::group_bounds::{group_end, group_start};
 use crate::placed::placed_streams;
 use crate::tallies::{statistic_of, tally_of};
 use crate::walk::Walk;
 use orc_column_reader::ColumnStreams;
+use orc_row_groups::{Counts, counts_behind, group_end, group_start, owns_between};
 use orc_stats::{Bins, Bools, Children, Counted, Dates, Ints, Plain, Stat, StatKind, Tally, Texts};
 use orc_values::{Own, Tree};
 use std::alloc::{AllocError, Global};
@@ -40,7 +38,7 @@ fn put_groups<'r, T: Tally<'r>>(
     requires bounds { AreBounds (length owns.now) bounds.now }
     ensures index { (cells : List Cell) → AreSpelledOwn (shape tree.now) streams.now owns.now cells
         → OnOk result ((x : Streams) → AreStreams x streams.now
-        → Adds (IsWrittenIndex (shape tree.now) x cells bounds.now) out.old.items out.new.items) }
+        → AddsPositions (IsWrittenIndex (shape tree.now) x cells bounds.now) out.old.items out.new.items) }
     ensures stat { (cells : List Cell) → AreOwn owns.now cells
         → IfOk result (λ found. found ≡ stat (kind_of (shape tree.now)) cells) }
     ensures front { KeepsFront out.old.items out.new.items }
@@ -86,7 +84,7 @@ pub(crate) fn put_entries(
     requires bounds { AreBounds (length owns.now) bounds.now }
     ensures index { (cells : List Cell) → AreSpelledOwn (shape tree.now) streams.now owns.now cells
         → OnOk result ((x : Streams) → AreStreams x streams.now
-        → Adds (IsWrittenIndex (shape tree.now) x cells bounds.now) out.old.items out.new.items) }
+        → AddsPositions (IsWrittenIndex (shape tree.now) x cells bounds.now) out.old.items out.new.items) }
     ensures stat { (cells : List Cell) → AreOwn owns.now cells
         → IfOk result (λ found. found ≡ stat (kind_of (shape tree.now)) cells) }
     ensures front { KeepsFront out.old.items out.new.items }

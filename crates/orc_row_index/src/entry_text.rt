@@ -3,12 +3,13 @@ ghost use Rattle.std.specs.Prelude.{◌≡◌, List, IfOk, OnOk, OnErr};
 ghost use Rattle.orc_values.specs.Cells.{Cell};
 ghost use Rattle.orc_stats.specs.Messages as spec;
 ghost use Rattle.orc_row_index.specs.EntryText.{IsEntryText};
-ghost use Rattle.orc_row_index.specs.Positions.{Adds};
-ghost use Rattle.orc_row_index.specs.Walking.{runs, lent_bytes, AreCounted, HavePositions, WalkedBefore};
+ghost use Rattle.orc_row_index.specs.Positions.{AddsPositions};
+ghost use Rattle.orc_row_index.specs.Walking.{runs, lent_bytes, HavePositions, WalkedBefore};
+ghost use Rattle.orc_row_groups.specs.Counts.{AreCounted};
 
-use crate::counts::Counts;
 use crate::placed::{PlacedStreams, put_positions};
 use crate::walk::Walk;
+use orc_row_groups::Counts;
 use orc_stats::Stat;
 use orc_wire::{ColumnStats, Items, Message, RowIndexEntry};
 use std::alloc::{AllocError, Global};
@@ -53,7 +54,7 @@ pub fn put_entry(
     // added: the writer's positions behind them, and the statistic.
     ensures entry { (before : List Cell) → AreCounted counts before
         → HavePositions (runs placed.now.present) (lent_bytes placed.now.content) (runs placed.now.own) before
-        → OnOk result (Adds (IsEntryText (runs placed.now.present) (lent_bytes placed.now.content)
+        → OnOk result (AddsPositions (IsEntryText (runs placed.now.present) (lent_bytes placed.now.content)
         (runs placed.now.own) before stat.now) out.old.items out.new.items) }
     // The walk has come no further than these cells.
     ensures walked { IfOk result (λ walk. (before : List Cell)

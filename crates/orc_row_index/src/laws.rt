@@ -4,8 +4,9 @@ ghost use Rattle.std.specs.List.{flat_map};
 ghost use Rattle.orc_values.specs.Cells.{Cell, parts, keys_in, values_in, values};
 ghost use Rattle.orc_values.specs.Fits.{RowsFit};
 ghost use Rattle.orc_values.specs.Shapes.{Shape};
-ghost use Rattle.orc_column_reader.specs.Stripe.{Streams, cell_limit};
-ghost use Rattle.orc_row_index.specs.Bounds.{AreBounds, elements_before, pairs_before, values_before};
+ghost use Rattle.orc_column_reader.specs.Stripe.{Streams};
+ghost use Rattle.orc_values.specs.Limits.{cell_limit};
+ghost use Rattle.orc_row_groups.specs.Bounds.{AreBounds, elements_before, pairs_before, values_before};
 ghost use Rattle.orc_row_index.specs.Positions.{AreReadPositions, AreWrittenPositions};
 ghost use Rattle.orc_row_index.specs.RowIndex.{IsWrittenIndex, IsRightIndex};
 

@@ -1,13 +1,8 @@
 //! Row indexes: where each group of a column's cells begins in its streams, and the statistic of the group.
 #![tactic(auto)]
 
-mod between;
-mod bounds;
-mod counting;
-mod counts;
 mod entries;
 mod entry_text;
-mod group_bounds;
 mod laws;
 mod placed;
 mod row_index;
@@ -15,10 +10,6 @@ mod run_bytes;
 mod tallies;
 mod walk;
 
-pub use between::cells_between;
-pub use bounds::{element_bounds, field_bounds, pair_bounds};
-pub use counting::counts_after;
-pub use counts::Counts;
 pub use entry_text::put_entry;
 pub use laws::index_laws;
 pub use placed::{PlacedStreams, placed_streams, values_kind};

@@ -4,15 +4,17 @@ ghost use Rattle.orc_values.specs.Cells.{Cell};
 ghost use Rattle.orc_values.specs.Views.{shape};
 ghost use Rattle.orc_column_reader.specs.Starting.{AreStreams};
 ghost use Rattle.orc_column_reader.specs.Stripe.{Streams};
-ghost use Rattle.orc_row_index.specs.Positions.{ArePositions, octets_position, writer, Adds};
+ghost use Rattle.orc_row_index.specs.Positions.{ArePositions, octets_position, writer, AddsPositions};
 ghost use Rattle.orc_row_index.specs.RunStreams.{kind_of_values, present_runs, scalar_runs, text_runs, scalar_octets, text_octets};
-ghost use Rattle.orc_row_index.specs.Walking.{runs, lent_bytes, most, ArePlaced, AreCounted, HasOctets, HavePositions, WalkedBefore};
+ghost use Rattle.orc_row_index.specs.Walking.{runs, lent_bytes, ArePlaced, HasOctets, HavePositions, WalkedBefore};
+ghost use Rattle.orc_row_groups.specs.Counts.{most, AreCounted};
 
-use crate::counts::Counts;
 use crate::run_bytes::{RunBytes, put_position};
 use crate::walk::Walk;
-use orc_column_reader::{ColumnStreams, StreamKind};
+use orc_column_reader::ColumnStreams;
+use orc_directory::StreamKind;
 use orc_rle::Sign;
+use orc_row_groups::Counts;
 use orc_values::{Scalar, Tree};
 use std::alloc::AllocError;
 
@@ -162,7 +164,7 @@ pub(crate) fn put_positions(
         × WalkedBefore (runs placed.now.present) (runs placed.now.own) from before }
     ensures places { (before : List Cell) → AreCounted counts before
         → HavePositions (runs placed.now.present) (lent_bytes placed.now.content) (runs placed.now.own) before
-        → OnOk result (Adds (ArePositions writer (runs placed.now.present)
+        → OnOk result (AddsPositions (ArePositions writer (runs placed.now.present)
         (lent_bytes placed.now.content) (runs placed.now.own) before)
         out.old.items out.new.items) }
     ensures walked { IfOk result (λ walk. (before : List Cell)

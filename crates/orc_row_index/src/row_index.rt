@@ -6,9 +6,10 @@ ghost use Rattle.orc_stats.specs.Kinds.{kind_of};
 ghost use Rattle.orc_stats.specs.Statistics.{stat};
 ghost use Rattle.orc_column_reader.specs.Starting.{AreStreams};
 ghost use Rattle.orc_column_reader.specs.Stripe.{Streams};
-ghost use Rattle.orc_row_index.specs.Bounds.{AreBounds};
-ghost use Rattle.orc_row_index.specs.OwnCells.{AreOwn, AreSpelledOwn};
-ghost use Rattle.orc_row_index.specs.Positions.{Adds};
+ghost use Rattle.orc_row_groups.specs.Bounds.{AreBounds};
+ghost use Rattle.orc_row_index.specs.OwnCells.{AreSpelledOwn};
+ghost use Rattle.orc_row_groups.specs.OwnCells.{AreOwn};
+ghost use Rattle.orc_row_index.specs.Positions.{AddsPositions};
 ghost use Rattle.orc_row_index.specs.RowIndex.{IsWrittenIndex};
 
 use crate::entries::put_entries;
@@ -40,7 +41,7 @@ pub fn put_index(
     // added: for each group the writer's positions behind the cells before it, and its statistic.
     ensures index { (cells : List Cell) → AreSpelledOwn (shape tree.now) streams.now owns.now cells
         → OnOk result ((x : Streams) → AreStreams x streams.now
-        → Adds (IsWrittenIndex (shape tree.now) x cells bounds.now) out.old.items out.new.items) }
+        → AddsPositions (IsWrittenIndex (shape tree.now) x cells bounds.now) out.old.items out.new.items) }
     // What is answered is the statistic of all the cells.
     ensures stat { (cells : List Cell) → AreOwn owns.now cells
         → IfOk result (λ found. found ≡ stat (kind_of (shape tree.now)) cells) }

@@ -3,7 +3,7 @@ ghost use Rattle.std.specs.Prelude.{◌≡◌, ◌-◌, ◌≤◌, ◌++◌, [],
 ghost use Rattle.orc_positions.specs.Position.{IsWriterPosition, HasValues};
 ghost use Rattle.orc_positions.specs.RunStarts.{IsRunStart};
 ghost use Rattle.orc_column_reader.specs.Numbers.{is_run};
-ghost use Rattle.orc_row_index.specs.Positions.{IsPosition, writer, Adds, position_size};
+ghost use Rattle.orc_row_index.specs.Positions.{IsPosition, writer, AddsPositions, position_size};
 ghost use Rattle.orc_row_index.specs.Walking.{runs, HasPosition, BeginsBefore};
 
 use orc_positions::{RunStart, byte_run_start_at, run_start_at};
@@ -87,7 +87,7 @@ pub(crate) fn put_position(
     requires there { HasPosition (runs stream.now) n }
     requires from { BeginsBefore (runs stream.now) from n }
     ensures place { OnOk result
-        (Adds (IsPosition writer (runs stream.now) n) out.old.items out.new.items) }
+        (AddsPositions (IsPosition writer (runs stream.now) n) out.old.items out.new.items) }
     ensures from { IfOk result (λ run_start. BeginsBefore (runs stream.now) run_start n) }
 {
     match *stream {

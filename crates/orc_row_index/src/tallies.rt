@@ -2,7 +2,7 @@
 ghost use Rattle.std.specs.Prelude.{◌≡◌, ◌≤◌, ◌^◌, true, All, length, IfOk};
 ghost use Rattle.orc_stats.specs.Kinds.{is_of};
 ghost use Rattle.orc_stats.specs.Tallies.{cells_kept, stat_of_kept};
-ghost use Rattle.orc_row_index.specs.OwnCells.{own_cells};
+ghost use Rattle.orc_row_groups.specs.OwnCells.{own_cells};
 
 use orc_stats::{Stat, Tally};
 use orc_values::Own;

@@ -3,7 +3,8 @@ use Rattle.std.specs.Prelude.{MatchBool}
 use Rattle.std.proofs.Common.{◌≡◌, ℕ, ◌≤◌, Bool, true, false, Option, Some, None, List, [], ◌∷◌, ◌++◌, length, take, drop, get_or, refl, sym, ap, ◌∙◌, subst, arith}
 use Rattle.std.proofs.lemmas.List.{take-append-drop}
 use Rattle.orc_values.specs.Cells.{Cell, values}
-use Rattle.orc_row_index.specs.Positions.{IsPosition, ArePositions, ValuePositions, octets, reader, position_size}
+use Rattle.orc_row_index.specs.Positions.{IsPosition, ArePositions, ValuePositions, reader, position_size}
+use Rattle.orc_row_groups.specs.Counts.{octets}
 use Rattle.orc_row_index.specs.RunStreams.{RunStream}
 use Rattle.orc_row_index.specs.Walking.{HasPosition, HasOctets}
 use Rattle.orc_row_index_check.specs.Tables.{IsTable, TablePosition}

@@ -6,17 +6,17 @@ use Rattle.orc_values.specs.Cells.{Cell}
 use Rattle.orc_values.specs.Shapes.{Shape}
 use Rattle.orc_column_reader.specs.Starting.{AreStreams}
 use Rattle.orc_column_reader.specs.Stripe.{Streams, IsColumn, has_dictionary}
-use Rattle.orc_column_reader.specs.declared.fault.StreamKind.{StreamKind}
-use Rattle.orc_column_reader.specs.declared.fault.StreamKind.TheVariants.{Present}
-use Rattle.orc_column_reader.specs.declared.fault.StripeFault.{StripeFault}
+use Rattle.orc_directory.specs.declared.fault.StreamKind.{StreamKind}
+use Rattle.orc_directory.specs.declared.fault.StreamKind.TheVariants.{Present}
+use Rattle.orc_directory.specs.declared.fault.StripeFault.{StripeFault}
 use Rattle.orc_column_reader.specs.declared.starting.ColumnStreams.{ColumnStreams}
-use Rattle.orc_row_index.specs.Bounds.{bound_at}
+use Rattle.orc_row_groups.specs.Bounds.{bound_at}
 use Rattle.orc_row_index.specs.Positions.{ArePositions, AreReadPositions, reader}
 use Rattle.orc_row_index.specs.RunStreams.{RunStream, present_runs, value_bytes}
 use Rattle.orc_row_index.specs.Walking.{runs, lent_bytes, ArePlaced}
-use Rattle.orc_row_index.specs.declared.counts.Counts.{Counts}
+use Rattle.orc_row_groups.specs.declared.counts.Counts.{Counts}
 use Rattle.orc_row_index.specs.declared.placed.PlacedStreams.{PlacedStreams}
-use Rattle.orc_row_index.proofs.Groups.{pushed_get}
+use Rattle.orc_values.proofs.Lists.{pushed_get}
 use Rattle.orc_row_index.specs.RunStreams.{kind_of_values}
 use Rattle.orc_row_index_check.specs.ColumnTables.{FailsIn, ColumnFails}
 use Rattle.orc_row_index_check.specs.CountedBefore.{AreCountedBefore}

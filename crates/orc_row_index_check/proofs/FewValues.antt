@@ -1,7 +1,7 @@
 -- The streams of a column have no more values than the column has cells.
 use Rattle.std.proofs.Common.{ℕ, ◌<◌, ◌^◌, Bool, true, false, List, [], ◌∷◌, length, map, arith}
 use Rattle.std.proofs.lemmas.List.{length-map}
-use Rattle.orc_rle.specs.BitLaws.{held_len}
+use Rattle.orc_rle.proofs.BitLaws.{held_len}
 use Rattle.orc_rle.specs.BitStream.{IsBitStream}
 use Rattle.orc_rle.specs.ByteRun.{IsByteRun}
 use Rattle.orc_values.specs.Cells.{Cell, is_value, parts, pairs_in, values}
@@ -13,8 +13,8 @@ use Rattle.orc_column_reader.specs.Spellings.{size}
 use Rattle.orc_column_reader.specs.Stripe.{Streams, has_dictionary, Marks, SpellsTexts, SpellsScalar, SpellsValues, IsColumn}
 use Rattle.orc_row_index.specs.RunStreams.{present_runs, text_runs, scalar_runs, value_runs}
 use Rattle.orc_row_index.proofs.ColumnPlaces.{stand_long}
-use Rattle.orc_row_index.proofs.Groups.{values_few}
 use Rattle.orc_row_index_check.specs.Tables.{HasFew, IsFew}
+use Rattle.orc_values.proofs.Lists.{values_few}
 
 bits_few : (b : List ℕ) (all : List Bool) → IsBitStream b all → length all < 2 ^ 31 → HasFew IsByteRun b
 bits_few b all h few = (h.packed, h.runs, omega (arith, few, held_len h.packed all h.held))

@@ -4,14 +4,14 @@ use Rattle.std.specs.Prelude.{◌≡◌, ℕ, ◌⊎◌, Option, List}
 use Rattle.orc_rle.specs.declared.fault.RunFault.{RunFault}
 use Rattle.orc_values.specs.Shapes.{Shape}
 use Rattle.orc_column_reader.specs.Stripe.{Streams, has_dictionary, in_present}
-use Rattle.orc_column_reader.specs.declared.fault.StripeFault.{StripeFault}
-use Rattle.orc_column_reader.specs.declared.fault.StripeFault.TheVariants.{Run}
-use Rattle.orc_column_reader.specs.declared.fault.StreamKind.{StreamKind}
-use Rattle.orc_column_reader.specs.declared.fault.StreamKind.TheVariants as stream
+use Rattle.orc_directory.specs.declared.fault.StripeFault.{StripeFault}
+use Rattle.orc_directory.specs.declared.fault.StripeFault.TheVariants.{Run}
+use Rattle.orc_directory.specs.declared.fault.StreamKind.{StreamKind}
+use Rattle.orc_directory.specs.declared.fault.StreamKind.TheVariants as stream
 use Rattle.orc_row_index.specs.RunStreams.{RunStream, present_runs, value_runs, kind_of_values}
 use Rattle.orc_row_index.specs.Walking.{lent_bytes}
 use Rattle.orc_row_index_check.specs.declared.column_table.ColumnTable.{ColumnTable}
-use Rattle.orc_row_index_check.specs.Tables.{IsTable, RunsFail}
+use Rattle.orc_row_index_check.specs.Tables.{IsTable, TableRunsFail}
 
 -- these are the tables of a column's streams
 pub record AreTables (present : RunStream) (content : Option (List ℕ)) (own : RunStream)
@@ -22,7 +22,7 @@ pub record AreTables (present : RunStream) (content : Option (List ℕ)) (own : 
 
 -- the fault of the runs of a stream of the column
 abbrev pub FailsIn : ℕ → StreamKind → RunStream → StripeFault → Type 0
-FailsIn column kind runs fault = (cause : RunFault) × (fault ≡ Run column kind cause) × RunsFail runs cause
+FailsIn column kind runs fault = (cause : RunFault) × (fault ≡ Run column kind cause) × TableRunsFail runs cause
 
 -- the fault of the runs of one of the column's streams that have positions
 abbrev pub ColumnFails : Shape → Streams → ℕ → StripeFault → Type 0

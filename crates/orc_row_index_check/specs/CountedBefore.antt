@@ -1,9 +1,9 @@
 -- What is counted of a column's cells before each group (ORC specification, "Row Group Index").
 use Rattle.std.specs.Prelude.{◌≡◌, ℕ, Some, List, length, slice_get}
 use Rattle.orc_values.specs.Cells.{Cell}
-use Rattle.orc_row_index.specs.Bounds.{before_group}
-use Rattle.orc_row_index.specs.Walking.{AreCounted}
-use Rattle.orc_row_index.specs.declared.counts.Counts.{Counts}
+use Rattle.orc_row_groups.specs.Bounds.{before_group}
+use Rattle.orc_row_groups.specs.Counts.{AreCounted}
+use Rattle.orc_row_groups.specs.declared.counts.Counts.{Counts}
 
 -- of each of the first groups the counts of the cells before it
 pub record AreCountedBefore (counts : List Counts) (cells : List Cell) (bounds : List ℕ) (groups : ℕ) : Type 0 where

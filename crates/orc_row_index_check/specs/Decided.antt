@@ -4,7 +4,7 @@ use Rattle.orc_wire.specs.declared.row_index.RowIndexEntry.{RowIndexEntry}
 use Rattle.orc_values.specs.Cells.{Cell}
 use Rattle.orc_values.specs.Shapes.{Shape}
 use Rattle.orc_column_reader.specs.Stripe.{Streams}
-use Rattle.orc_row_index.specs.Bounds.{before_group}
+use Rattle.orc_row_groups.specs.Bounds.{before_group}
 use Rattle.orc_row_index.specs.Positions.{AreReadPositions}
 
 -- the truth value says whether the positions are those behind the cells before a group

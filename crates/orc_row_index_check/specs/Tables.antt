@@ -8,7 +8,7 @@ use Rattle.orc_column_reader.specs.Numbers.{is_run}
 use Rattle.orc_column_reader.specs.RunFaults.{no_run}
 use Rattle.orc_row_index.specs.Positions.{RunPosition, BitsPosition}
 use Rattle.orc_row_index.specs.RunStreams.{RunStream, no_stream, bit_runs, byte_runs, number_runs}
-use Rattle.orc_row_index.specs.Walking.{most}
+use Rattle.orc_row_groups.specs.Counts.{most}
 use Rattle.orc_row_index_check.specs.declared.stream_table.StreamTable.{StreamTable}
 use Rattle.orc_row_index_check.specs.declared.stream_table.StreamTable.TheVariants as table
 
@@ -32,11 +32,11 @@ IsFew (byte_runs stream) = HasFew IsByteRun stream
 IsFew (number_runs version sign stream) = HasFew (is_run version sign) stream
 
 -- why they are none
-abbrev pub RunsFail : RunStream → RunFault → Type 0
-RunsFail no_stream fault = ⊥
-RunsFail (bit_runs stream) fault = StopsWithin IsByteRun NoByteRun most stream fault
-RunsFail (byte_runs stream) fault = StopsWithin IsByteRun NoByteRun most stream fault
-RunsFail (number_runs version sign stream) fault =
+abbrev pub TableRunsFail : RunStream → RunFault → Type 0
+TableRunsFail no_stream fault = ⊥
+TableRunsFail (bit_runs stream) fault = StopsWithin IsByteRun NoByteRun most stream fault
+TableRunsFail (byte_runs stream) fault = StopsWithin IsByteRun NoByteRun most stream fault
+TableRunsFail (number_runs version sign stream) fault =
     StopsWithin (is_run version sign) (no_run version sign) most stream fault
 
 -- the position of value n, as it is looked up

@@ -2,17 +2,19 @@
 ghost use Rattle.std.specs.Prelude.{◌≡◌, ◌≢◌, ◌≤◌, ◌⊎◌, ℕ, Option, List, min, length, IfOk, IfErr, MatchBool};
 ghost use Rattle.orc_values.specs.Cells.{Cell};
 ghost use Rattle.orc_values.specs.Views.{shape};
-ghost use Rattle.orc_column_reader.specs.declared.fault.StripeFault.TheVariants.{OutOfMemory};
-ghost use Rattle.orc_column_reader.specs.declared.fault.StreamKind.TheVariants.{Present};
+ghost use Rattle.orc_directory.specs.declared.fault.StripeFault.TheVariants.{OutOfMemory};
+ghost use Rattle.orc_directory.specs.declared.fault.StreamKind.TheVariants.{Present};
 ghost use Rattle.orc_row_index.specs.Positions.{ArePositions, ValuePositions, reader};
 ghost use Rattle.orc_row_index.specs.RunStreams.{RunStream};
-ghost use Rattle.orc_row_index.specs.Walking.{runs, lent_bytes, most, AreCounted, HavePositions};
+ghost use Rattle.orc_row_index.specs.Walking.{runs, lent_bytes, HavePositions};
+ghost use Rattle.orc_row_groups.specs.Counts.{most, AreCounted};
 ghost use Rattle.orc_row_index_check.specs.Tables.{IsTable, IsFew};
 ghost use Rattle.orc_row_index_check.specs.ColumnTables.{AreTables, FailsIn};
 
 use crate::stream_table::{StreamTable, table_of};
-use orc_column_reader::{StreamKind, StripeFault, run_fault};
-use orc_row_index::{Counts, PlacedStreams, RunBytes};
+use orc_directory::{StreamKind, StripeFault, run_fault};
+use orc_row_groups::Counts;
+use orc_row_index::{PlacedStreams, RunBytes};
 use std::alloc::Global;
 
 /// The runs of a column's streams that have positions, and DATA where it has the bytes of texts or byte strings as

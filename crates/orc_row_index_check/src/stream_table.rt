@@ -7,9 +7,10 @@ ghost use Rattle.orc_column_reader.specs.Numbers.{is_run};
 ghost use Rattle.orc_column_reader.specs.RunFaults.{no_run};
 ghost use Rattle.orc_row_index.specs.Positions.{RunPosition, BitsPosition};
 ghost use Rattle.orc_row_index.specs.RunStreams.{RunStream};
-ghost use Rattle.orc_row_index.specs.Walking.{runs, most};
+ghost use Rattle.orc_row_index.specs.Walking.{runs};
+ghost use Rattle.orc_row_groups.specs.Counts.{most};
 ghost use Rattle.orc_row_index.specs.Positions.{position_size};
-ghost use Rattle.orc_row_index_check.specs.Tables.{IsTable, IsFew, RunsFail, TablePosition};
+ghost use Rattle.orc_row_index_check.specs.Tables.{IsTable, IsFew, TableRunsFail, TablePosition};
 
 use orc_positions::{RunTable, byte_table, run_table};
 use orc_rle::{Rle, RunFault, Sign, V1, V2};
@@ -53,7 +54,7 @@ fn number_places(
 pub(crate) fn table_of(alloc: Global, stream: &RunBytes<'_>) -> Result<StreamTable, RunFault>
     ensures found { IfOk result (IsTable (runs stream.now)) }
     ensures only { IsFew (runs stream.now) → IfErr result (λ fault. fault ≡ OutOfMemory) }
-    ensures fault { IfErr result (λ fault. (fault ≡ OutOfMemory) ⊎ RunsFail (runs stream.now) fault) }
+    ensures fault { IfErr result (λ fault. (fault ≡ OutOfMemory) ⊎ TableRunsFail (runs stream.now) fault) }
 {
     match *stream {
         RunBytes::Nothing => Ok(StreamTable::Nothing),

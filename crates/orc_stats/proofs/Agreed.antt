@@ -8,9 +8,9 @@ use Rattle.orc_stats.specs.declared.stat.Body.TheVariants as body
 use Rattle.orc_stats.specs.Kinds.{body_is_of}
 use Rattle.orc_stats.specs.Joining.{least_children, greatest_children, total_children}
 use Rattle.orc_stats.specs.Known.{where_known, known_in, known_as, IsPart, Agrees}
-use Rattle.orc_stats.specs.Measures.{plain}
-use Rattle.orc_stats.specs.TallyLaws.{stat_is}
-use Rattle.orc_stats.specs.TallyKinds.{children_is}
+use Rattle.orc_stats.specs.Measures.{no_measure}
+use Rattle.orc_stats.specs.laws.TallyLaws.{stat_is}
+use Rattle.orc_stats.specs.laws.TallyKinds.{children_is}
 
 itself : (p : Option ℕ) → p ≡ where_known (p ∷ []) p
 itself None = refl
@@ -26,7 +26,7 @@ body_itself (body.Bins s) = refl
 body_itself (body.Children l g t) = children_is (itself l) (itself g) (itself t)
 
 pub same_agrees : (s : Stat) → Agrees s s
-same_agrees s = stat_is plain refl refl (body_itself s.body)
+same_agrees s = stat_is no_measure refl refl (body_itself s.body)
 
 once : (p q : Option ℕ) → where_known (p ∷ []) q ≡ where_known (where_known (p ∷ []) q ∷ []) q
 once None q = refl
@@ -43,7 +43,7 @@ body_once o (body.Bins s) = refl
 body_once o (body.Children l g t) = children_is (once (least_children o) l) (once (greatest_children o) g) (once (total_children o) t)
 
 pub less_agrees : (o : Body) (s : Stat) → Agrees (known_as o s) s
-less_agrees o s = stat_is plain refl refl (body_once o s.body)
+less_agrees o s = stat_is no_measure refl refl (body_once o s.body)
 
 part_of : (p q : Option ℕ) → p ≡ where_known (p ∷ []) q → IsPart p q
 part_of None q e = tt
@@ -65,7 +65,7 @@ parts_agree n c a b l g t m h u = (
     part_of g h (ap (λ (s : Stat). greatest_children s.body) e),
     part_of t u (ap (λ (s : Stat). total_children s.body) e),
   ),
-  λ p. stat_is plain p.0 p.1 (children_is (of_part l m p.2) (of_part g h p.3) (of_part t u p.4)),
+  λ p. stat_is no_measure p.0 p.1 (children_is (of_part l m p.2) (of_part g h p.3) (of_part t u p.4)),
 )
 
 -- of other kinds nothing is left out
@@ -85,7 +85,7 @@ stays kind.Bins bs (body.Children l g t) e n = cc
 stays kind.Children bs (body.Children l g t) e n = absurd (n refl)
 
 pub others_agree : (k : StatKind) (x y : Stat) → body_is_of k y.body ≡ true → (k ≡ kind.Children → ⊥) → Agrees x y → x ≡ y
-others_agree k x y e n h = h ∙ stat_is plain refl refl (stays k (x.body ∷ []) y.body e n)
+others_agree k x y e n h = h ∙ stat_is no_measure refl refl (stays k (x.body ∷ []) y.body e n)
 
 pub none_agrees : (let none : Stat = record { count = 1; nulls = Some false; body = body.Children None None None } in
     let empty : Stat = record { count = 1; nulls = Some false; body = body.Children (Some 0) (Some 0) (Some 0) } in

@@ -12,9 +12,9 @@ use Rattle.orc_stats.specs.Statistics.{onto, reduce, in_u64, children_of, childr
 use Rattle.orc_stats.specs.Joining.{of_known, total_children, has_values, valued_bodies}
 use Rattle.orc_stats.specs.Seen.{both, seen_of, known_of, value_seen}
 use Rattle.orc_stats.specs.Orders.{nat_sums, both_orderly}
-use Rattle.orc_stats.specs.Tallies.{all}
+use Rattle.orc_stats.specs.Tallies.{parts_together}
 use Rattle.orc_stats.specs.Measures.{nat_totals}
-use Rattle.orc_stats.specs.TallyLaws.{unknown_stays, known_value, known_all_in}
+use Rattle.orc_stats.specs.laws.TallyLaws.{unknown_stays, known_value, known_all_in}
 use Rattle.orc_stats.proofs.Words.{positive, appended, valued}
 
 pub few_children : (p : List Cell) → AllByRecursion (λ c. is_of kind.Children c ≡ true) p → length (values p) ≡ length (filter_map children_of p)
@@ -65,13 +65,13 @@ unfolding Totals
 none_total = inl refl
 
 all_totals : (parts : List (List Cell)) → AllByRecursion (AllByRecursion (λ c. is_of kind.Children c ≡ true)) parts
-    → Totals (all nat_totals (map (λ b. seen_of (total_children b)) (valued_bodies (map (stat kind.Children) parts)))) (reduce ◌+◌ (filter_map children_of (flat_map (λ p. p) parts)))
+    → Totals (parts_together nat_totals (map (λ b. seen_of (total_children b)) (valued_bodies (map (stat kind.Children) parts)))) (reduce ◌+◌ (filter_map children_of (flat_map (λ p. p) parts)))
 all_totals [] h = none_total
 all_totals (p ∷ ps) h =
     let rest = flat_map (λ (q : List Cell). q) ps in
     subst (λ (s : Seen ℕ). Totals s (reduce ◌+◌ (filter_map children_of (p ++ rest)))) (sym (valued ◌+◌ nat_sums (λ b. seen_of (total_children b)) kind.Children p ps))
     (subst (λ (ns : List ℕ). Totals (both ◌+◌ (if has_values (stat kind.Children p) then seen_of (total_children (values_body kind.Children p)) else Nothing)
-    (all nat_totals (map (λ b. seen_of (total_children b)) (valued_bodies (map (stat kind.Children) ps))))) (reduce ◌+◌ ns)) (sym (filter_map-append children_of p rest))
+    (parts_together nat_totals (map (λ b. seen_of (total_children b)) (valued_bodies (map (stat kind.Children) ps))))) (reduce ◌+◌ ns)) (sym (filter_map-append children_of p rest))
     (both_totals _ _ (filter_map children_of p) (filter_map children_of rest) (one_total (length (values p)) (filter_map children_of p) (few_children p h.0)) (all_totals ps h.1)))
 
 in_room : (s : Seen ℕ) (r : Option ℕ) → Totals s r → option_and_then in_u64 (known_of s) ≡ option_and_then in_u64 r

@@ -13,7 +13,7 @@ use Rattle.orc_stats.specs.Kinds.{is_of, body_is_of}
 use Rattle.orc_stats.specs.Faults.{JoinFault}
 use Rattle.orc_stats.specs.Statistics.{bit}
 use Rattle.orc_stats.specs.Tallies.{Measure, Kept, together, cell_kept, stat_kept, cells_kept, stats_kept}
-use Rattle.orc_stats.specs.TallyLaws.{together_assoc, none_together, cells_kept_count, stats_kept_count}
+use Rattle.orc_stats.specs.laws.TallyLaws.{together_assoc, none_together, cells_kept_count, stats_kept_count}
 
 pub few_values : (cells : List Cell) → length (values cells) ≤ length cells
 few_values [] = omega arith

@@ -14,9 +14,9 @@ use Rattle.orc_stats.specs.Statistics.{least, greatest, children_total, has_null
 use Rattle.orc_stats.specs.Joining.{parts_if_known, of_known, or_known, nulls_joined, least_children, greatest_children, total_children, has_values, valued_bodies, bodies_joined, joined}
 use Rattle.orc_stats.specs.Whole.{keeps_sum, without_sum, whole}
 use Rattle.orc_stats.specs.Known.{where_known, known_in, known_as, told_body, Part, part_cells, parts_of, told_of, known_whole, known_stats, AllAgree}
-use Rattle.orc_stats.specs.Measures.{plain}
-use Rattle.orc_stats.specs.TallyLaws.{stat_is}
-use Rattle.orc_stats.specs.TallyKinds.{children_is}
+use Rattle.orc_stats.specs.Measures.{no_measure}
+use Rattle.orc_stats.specs.laws.TallyLaws.{stat_is}
+use Rattle.orc_stats.specs.laws.TallyKinds.{children_is}
 use Rattle.orc_stats.proofs.Parts.{joined-parts}
 use Rattle.orc_stats.proofs.Agreed.{same_agrees}
 
@@ -90,7 +90,7 @@ children_known parts = children_is
 module _ (k : StatKind) (stays : (bs : List Body) (p : List Cell) → known_in bs (values_body k p) ≡ values_body k p) (whole_stays : (bs : List Body) (p : List Cell) → known_in bs (without_sum (values_body k p)) ≡ without_sum (values_body k p)) where
   all_stay : (parts : List Part) → known_stats k parts ≡ map (stat k) (part_cells parts)
   all_stay [] = refl
-  all_stay (p ∷ ps) = ap₂ (λ (s : Stat) (ss : List Stat). s ∷ ss) (stat_is plain refl refl (stays (told_body p.told ∷ []) p.cells)) (all_stay ps)
+  all_stay (p ∷ ps) = ap₂ (λ (s : Stat) (ss : List Stat). s ∷ ss) (stat_is no_measure refl refl (stays (told_body p.told ∷ []) p.cells)) (all_stay ps)
 
   either : (b : Bool) (bs : List Body) (p : List Cell) → (if b then values_body k p else without_sum (values_body k p)) ≡ known_in bs (if b then values_body k p else without_sum (values_body k p))
   either true bs p = sym (stays bs p)
@@ -100,7 +100,7 @@ module _ (k : StatKind) (stays : (bs : List Body) (p : List Cell) → known_in b
       → length (flat_map (λ p. p) (part_cells parts)) ≤ 2 ^ 62 → joined k (known_stats k parts) ≡ known_whole k parts
   other_known parts h most =
       ap (joined k) (all_stay parts) ∙ joined-parts k (part_cells parts) h most
-      ∙ stat_is plain refl refl (either (list_all (λ p. keeps_sum (stat k p)) (part_cells parts)) (told_of k parts) (flat_map (λ p. p) (part_cells parts)))
+      ∙ stat_is no_measure refl refl (either (list_all (λ p. keeps_sum (stat k p)) (part_cells parts)) (told_of k parts) (flat_map (λ p. p) (part_cells parts)))
 
 -- ---- each kind
 pub joined-known : (k : StatKind) (parts : List Part) → AllByRecursion (AllByRecursion (λ c. is_of k c ≡ true)) (part_cells parts)
@@ -112,7 +112,7 @@ joined-known kind.Dates parts h most = other_known kind.Dates (λ bs p. refl) (�
 joined-known kind.Texts parts h most = other_known kind.Texts (λ bs p. refl) (λ bs p. refl) parts h most
 joined-known kind.Bins parts h most = other_known kind.Bins (λ bs p. refl) (λ bs p. refl) parts h most
 joined-known kind.Children parts h most =
-    stat_is plain (known_counts kind.Children parts) (known_nulls kind.Children parts) (children_known parts)
+    stat_is no_measure (known_counts kind.Children parts) (known_nulls kind.Children parts) (children_known parts)
     ∙ ap (λ (s : Stat). known_to (told_of kind.Children parts) s) (joined-parts kind.Children (part_cells parts) h most)
   where
     known_to : List Body → Stat → Stat

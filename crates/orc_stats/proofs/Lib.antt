@@ -9,3 +9,6 @@ pub mod Agreed
 pub mod KnownParts
 pub mod Normal
 pub mod ReadBack
+pub mod Shown
+pub mod Childless
+pub mod Least

@@ -14,7 +14,7 @@ use Rattle.orc_stats.specs.Kinds.{is_of, body_is_of}
 use Rattle.orc_stats.specs.Statistics.{reduce, bit, least, greatest, total, lengths, children_total, text_cmp, bool_of, values_body, stat}
 use Rattle.orc_stats.specs.Joining.{in_limit, trues_total, parts_if_known, has_values, valued_bodies, bodies_joined, trues_of, joined}
 use Rattle.orc_stats.specs.Messages.{unknown, few_trues, IsStat}
-use Rattle.orc_stats.specs.TallyKinds.{picked_map, few_bits, few_picked}
+use Rattle.orc_stats.specs.laws.TallyKinds.{picked_map, few_bits, few_picked}
 use Rattle.orc_stats.proofs.Folding.{few_values}
 use Rattle.orc_stats.proofs.Parts.{few_ints, few_dates, few_bools, few_texts, few_bins}
 use Rattle.orc_stats.proofs.ChildTotals.{few_children}

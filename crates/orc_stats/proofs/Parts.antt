@@ -17,9 +17,9 @@ use Rattle.orc_stats.specs.Statistics.{lower, reduce, text_cmp, total, lengths, 
 use Rattle.orc_stats.specs.Joining.{or_known, in_limit, nulls_joined, least_int, greatest_int, least_date, greatest_date, least_text, greatest_text, trues_of, least_children, greatest_children, valued_bodies, bodies_joined, joined}
 use Rattle.orc_stats.specs.Whole.{without_sum, keeps_sum, whole}
 use Rattle.orc_stats.specs.Orders.{nat_sums, lower_ints, higher_ints, lower_texts, higher_texts, lower_nats, higher_nats}
-use Rattle.orc_stats.specs.Measures.{plain}
-use Rattle.orc_stats.specs.TallyLaws.{stat_is}
-use Rattle.orc_stats.specs.TallyKinds.{ints_is, dates_is, texts_is, children_is, picked_map, trues_kept}
+use Rattle.orc_stats.specs.Measures.{no_measure}
+use Rattle.orc_stats.specs.laws.TallyLaws.{stat_is}
+use Rattle.orc_stats.specs.laws.TallyKinds.{ints_is, dates_is, texts_is, children_is, picked_map, trues_kept}
 use Rattle.orc_stats.proofs.Words.{word, word_in, sum_word}
 use Rattle.orc_stats.proofs.ChildTotals.{few_children, total_word}
 
@@ -48,7 +48,7 @@ whole_is : (k : StatKind) (parts : List (List Cell))
     → (let cells = flat_map (λ p. p) parts in
     bodies_joined k (valued_bodies (map (stat k) parts)) ≡ (if list_all (λ p. keeps_sum (stat k p)) parts then values_body k cells else without_sum (values_body k cells)))
     → joined k (map (stat k) parts) ≡ whole k parts
-whole_is k parts e = stat_is plain (whole_count k parts) (whole_nulls k parts) e
+whole_is k parts e = stat_is no_measure (whole_count k parts) (whole_nulls k parts) e
 
 -- as many values of a kind as cells that aren't null
 pub few_ints : (p : List Cell) → AllByRecursion (λ c. is_of kind.Ints c ≡ true) p → length (values p) ≡ length (filter_map int_of p)

@@ -7,8 +7,8 @@ use Rattle.orc_stats.specs.declared.stat.Body.{Body}
 use Rattle.orc_stats.specs.declared.stat.Body.TheVariants as body
 use Rattle.orc_stats.specs.Kinds.{body_is_of}
 use Rattle.orc_stats.specs.Messages.{unknown, ints_body, ints_record, dates_body, dates_record, texts_body, texts_record, bins_body, bins_record, bools_body, bools_record, children_body, children_record, body_read, stat_read, message_of, IsStat}
-use Rattle.orc_stats.specs.TallyLaws.{stat_is}
-use Rattle.orc_stats.specs.Measures.{plain}
+use Rattle.orc_stats.specs.laws.TallyLaws.{stat_is}
+use Rattle.orc_stats.specs.Measures.{no_measure}
 
 ints_back : (l g s : Option ℤ) → ints_body (ints_record l g s) ≡ body.Ints l g s
 ints_back (Some l) g s = refl
@@ -63,4 +63,4 @@ by_count true n x y z e empty back = sym (empty (eqb-true n 0 e))
 by_count false n x y z e empty back = back
 
 pub reads_back : (k : StatKind) (s : Stat) → IsStat k s → stat_read k (message_of s) ≡ s
-reads_back k s is = stat_is plain refl refl (by_count (s.count == 0) s.count (unknown k) (body_read k (message_of s)) s.body refl is.empty (body_back k s.count s.nulls s.body is.kind))
+reads_back k s is = stat_is no_measure refl refl (by_count (s.count == 0) s.count (unknown k) (body_read k (message_of s)) s.body refl is.empty (body_back k s.count s.nulls s.body is.kind))

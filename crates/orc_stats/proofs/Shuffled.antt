@@ -21,9 +21,9 @@ use Rattle.orc_stats.specs.Statistics.{reduce, bit, bool_of, stat}
 use Rattle.orc_stats.specs.Orders.{nat_sums}
 use Rattle.orc_stats.specs.Joining.{joined}
 use Rattle.orc_stats.specs.Tallies.{Measure, Kept, together, cell_kept, stat_kept, all_kept, cells_kept, stats_kept, stat_of_kept}
-use Rattle.orc_stats.specs.Measures.{ints, dates, texts, bools, bins, children, plain}
-use Rattle.orc_stats.specs.TallyLaws.{together_comm, together_assoc, stat_is, cells_kept_parts, cells_kept_count, cells_kept_nulls, known_values}
-use Rattle.orc_stats.specs.TallyKinds.{ints_cells, dates_cells, texts_cells, bins_cells, children_cells, plain_cells, ints_stats, dates_stats, texts_stats, bools_stats, bins_stats, children_stats, plain_stats, picked_map}
+use Rattle.orc_stats.specs.Measures.{ints, dates, texts, bools, bins, child_numbers, no_measure}
+use Rattle.orc_stats.specs.laws.TallyLaws.{together_comm, together_assoc, stat_is, cells_kept_parts, cells_kept_count, cells_kept_nulls, known_values}
+use Rattle.orc_stats.specs.laws.TallyKinds.{ints_cells, dates_cells, texts_cells, bins_cells, children_cells, plain_cells, ints_stats, dates_stats, texts_stats, bools_stats, bins_stats, children_stats, plain_stats, picked_map}
 
 module _ {P : Type 0} (m : Measure P) where
   together_left : (x u r : Kept P) → together m x (together m u r) ≡ together m u (together m x r)
@@ -87,7 +87,7 @@ trues_counted cells =
     ∙ ap (reduce ◌+◌) (picked_map bit bool_of cells)
 
 pub stat-shuffled : (k : StatKind) (xs ys : List Cell) → IsPermutation xs ys → stat k ys ≡ stat k xs
-stat-shuffled kind.Plain xs ys same = sym (plain_cells ys) ∙ ap (stat_of_kept plain) (cells_kept-shuffled plain xs ys same) ∙ plain_cells xs
+stat-shuffled kind.Plain xs ys same = sym (plain_cells ys) ∙ ap (stat_of_kept no_measure) (cells_kept-shuffled no_measure xs ys same) ∙ plain_cells xs
 stat-shuffled kind.Ints xs ys same = sym (ints_cells ys) ∙ ap (stat_of_kept ints) (cells_kept-shuffled ints xs ys same) ∙ ints_cells xs
 stat-shuffled kind.Bools xs ys same =
     let kept = cells_kept-shuffled bools xs ys same in
@@ -98,19 +98,19 @@ stat-shuffled kind.Bools xs ys same =
 stat-shuffled kind.Dates xs ys same = sym (dates_cells ys) ∙ ap (stat_of_kept dates) (cells_kept-shuffled dates xs ys same) ∙ dates_cells xs
 stat-shuffled kind.Texts xs ys same = sym (texts_cells ys) ∙ ap (stat_of_kept texts) (cells_kept-shuffled texts xs ys same) ∙ texts_cells xs
 stat-shuffled kind.Bins xs ys same = sym (bins_cells ys) ∙ ap (stat_of_kept bins) (cells_kept-shuffled bins xs ys same) ∙ bins_cells xs
-stat-shuffled kind.Children xs ys same = sym (children_cells ys) ∙ ap (stat_of_kept children) (cells_kept-shuffled children xs ys same) ∙ children_cells xs
+stat-shuffled kind.Children xs ys same = sym (children_cells ys) ∙ ap (stat_of_kept child_numbers) (cells_kept-shuffled child_numbers xs ys same) ∙ children_cells xs
 
 -- joined statistics have no order
 pub joined-shuffled : (k : StatKind) (xs ys : List Stat) → IsPermutation xs ys → joined k ys ≡ joined k xs
-joined-shuffled kind.Plain xs ys same = sym (plain_stats ys) ∙ ap (stat_of_kept plain) (stats_kept-shuffled plain xs ys same) ∙ plain_stats xs
+joined-shuffled kind.Plain xs ys same = sym (plain_stats ys) ∙ ap (stat_of_kept no_measure) (stats_kept-shuffled no_measure xs ys same) ∙ plain_stats xs
 joined-shuffled kind.Ints xs ys same = sym (ints_stats ys) ∙ ap (stat_of_kept ints) (stats_kept-shuffled ints xs ys same) ∙ ints_stats xs
 joined-shuffled kind.Bools xs ys same = sym (bools_stats ys) ∙ ap (stat_of_kept bools) (stats_kept-shuffled bools xs ys same) ∙ bools_stats xs
 joined-shuffled kind.Dates xs ys same = sym (dates_stats ys) ∙ ap (stat_of_kept dates) (stats_kept-shuffled dates xs ys same) ∙ dates_stats xs
 joined-shuffled kind.Texts xs ys same = sym (texts_stats ys) ∙ ap (stat_of_kept texts) (stats_kept-shuffled texts xs ys same) ∙ texts_stats xs
 joined-shuffled kind.Bins xs ys same = sym (bins_stats ys) ∙ ap (stat_of_kept bins) (stats_kept-shuffled bins xs ys same) ∙ bins_stats xs
-joined-shuffled kind.Children xs ys same = sym (children_stats ys) ∙ ap (stat_of_kept children) (stats_kept-shuffled children xs ys same) ∙ children_stats xs
+joined-shuffled kind.Children xs ys same = sym (children_stats ys) ∙ ap (stat_of_kept child_numbers) (stats_kept-shuffled child_numbers xs ys same) ∙ children_stats xs
 
 -- a statistic of no cells adds nothing
 pub joined-empty : (k : StatKind) (o : Body) (ss : List Stat)
     → (let none : Stat = record { count = 0; nulls = Some false; body = o } in joined k (none ∷ ss) ≡ joined k ss)
-joined-empty k o ss = stat_is plain (sum_by-cons (λ (s : Stat). s.count) (record { count = 0; nulls = Some false; body = o }) ss ∙ zero-add (sum_by (λ s. s.count) ss)) refl refl
+joined-empty k o ss = stat_is no_measure (sum_by-cons (λ (s : Stat). s.count) (record { count = 0; nulls = Some false; body = o }) ss ∙ zero-add (sum_by (λ s. s.count) ss)) refl refl

@@ -16,9 +16,9 @@ use Rattle.orc_stats.specs.Joining.{of_known, sum_of, has_values, valued_bodies}
 use Rattle.orc_stats.specs.Whole.{has_sum, keeps_sum}
 use Rattle.orc_stats.specs.Seen.{both, seen_of, known_of, value_seen}
 use Rattle.orc_stats.specs.Orders.{IsOrderly, both_orderly, int_sums}
-use Rattle.orc_stats.specs.Tallies.{all}
+use Rattle.orc_stats.specs.Tallies.{parts_together}
 use Rattle.orc_stats.specs.Measures.{seen_joins, int_totals}
-use Rattle.orc_stats.specs.TallyLaws.{value_onto, unknown_stays, known_value, known_all, known_all_in}
+use Rattle.orc_stats.specs.laws.TallyLaws.{value_onto, unknown_stays, known_value, known_all, known_all_in}
 
 pub positive : (n k : ℕ) → n ≡ suc k → nat_lt 0 n ≡ true
 positive n k e = lt-ltb 0 n (omega arith)
@@ -34,14 +34,14 @@ module _ {A : Type 0} (op : A → A → A) (o : IsOrderly op) where
       ∙ value_onto op o x (reduce op (xs ++ ys))
 
   valued_more : (f : Body → Seen A) (b : Bool) (s : Stat) (ss : List Stat)
-      → all (seen_joins op o) (map f (map (λ t. t.body) (if b then s ∷ ss else ss))) ≡ both op (if b then f s.body else Nothing) (all (seen_joins op o) (map f (map (λ t. t.body) ss)))
+      → parts_together (seen_joins op o) (map f (map (λ t. t.body) (if b then s ∷ ss else ss))) ≡ both op (if b then f s.body else Nothing) (parts_together (seen_joins op o) (map f (map (λ t. t.body) ss)))
   valued_more f true s ss = refl
   valued_more f false s ss = refl
 
   -- a part adds what its body has, where it has values
   pub valued : (f : Body → Seen A) (k : StatKind) (p : List Cell) (ps : List (List Cell))
-      → all (seen_joins op o) (map f (valued_bodies (map (stat k) (p ∷ ps))))
-      ≡ both op (if has_values (stat k p) then f (values_body k p) else Nothing) (all (seen_joins op o) (map f (valued_bodies (map (stat k) ps))))
+      → parts_together (seen_joins op o) (map f (valued_bodies (map (stat k) (p ∷ ps))))
+      ≡ both op (if has_values (stat k p) then f (values_body k p) else Nothing) (parts_together (seen_joins op o) (map f (valued_bodies (map (stat k) ps))))
   valued f k p ps = valued_more f (has_values (stat k p)) (stat k p) (filter has_values (map (stat k) ps))
 
   value_same : (n : ℕ) (xs : List A) → n ≡ length xs → (if nat_lt 0 n then seen_of (reduce op xs) else Nothing) ≡ value_seen (reduce op xs)
@@ -57,7 +57,7 @@ module _ {A : Type 0} (op : A → A → A) (o : IsOrderly op) where
     part_same p h = ap (λ r. if has_values (stat k p) then seen_of r else Nothing) (is p) ∙ value_same (length (values p)) (filter_map pick p) (few p h)
 
     parts_same : (parts : List (List Cell)) → AllByRecursion (AllByRecursion (λ c. is_of k c ≡ true)) parts
-        → all (seen_joins op o) (map (λ b. seen_of (part b)) (valued_bodies (map (stat k) parts))) ≡ value_seen (reduce op (filter_map pick (flat_map (λ p. p) parts)))
+        → parts_together (seen_joins op o) (map (λ b. seen_of (part b)) (valued_bodies (map (stat k) parts))) ≡ value_seen (reduce op (filter_map pick (flat_map (λ p. p) parts)))
     parts_same [] h = refl
     parts_same (p ∷ ps) h =
         valued (λ b. seen_of (part b)) k p ps
@@ -120,7 +120,7 @@ module _ (k : StatKind) (pick : Cell → Option ℤ)
       ∙ ap (λ b. if not (has_values (stat k p)) || b then value_seen (exact_total (filter_map pick p)) else Unknown) (sym (has p ∙ ap is_some (is p)))
 
   sums_counted : (parts : List (List Cell)) → AllByRecursion (AllByRecursion (λ c. is_of k c ≡ true)) parts
-      → all int_totals (map (λ b. seen_of (sum_of b)) (valued_bodies (map (stat k) parts)))
+      → parts_together int_totals (map (λ b. seen_of (sum_of b)) (valued_bodies (map (stat k) parts)))
       ≡ (if list_all (λ p. keeps_sum (stat k p)) parts then value_seen (exact_total (filter_map pick (flat_map (λ p. p) parts))) else Unknown)
   sums_counted [] h = refl
   sums_counted (p ∷ ps) h =

@@ -11,6 +11,5 @@ pub mod Sizes
 pub mod Orders
 pub mod Tallies
 pub mod Measures
-pub mod TallyLaws
-pub mod TallyKinds
-pub mod OwnCells
+pub mod ColumnStatistics
+pub mod laws

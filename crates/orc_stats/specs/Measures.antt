@@ -109,8 +109,8 @@ bins = record {
 }
 
 -- LIST and MAP: least, greatest and total of the numbers of children
-abbrev pub children : Measure (Seen ℕ × (Seen ℕ × Seen ℕ))
-children = record {
+abbrev pub child_numbers : Measure (Seen ℕ × (Seen ℕ × Seen ℕ))
+child_numbers = record {
   joins = least_nats and greatest_nats and nat_totals;
   of_cell = λ c. (value_seen (children_of c), (value_seen (children_of c), value_seen (children_of c)));
   of_null = refl;
@@ -119,8 +119,8 @@ children = record {
 }
 
 -- STRUCT: nothing
-abbrev pub plain : Measure (Unit {0})
-plain = record {
+abbrev pub no_measure : Measure (Unit {0})
+no_measure = record {
   joins = record {
     none = tt;
     join = λ p q. tt;

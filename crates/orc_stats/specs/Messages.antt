@@ -52,14 +52,14 @@ children_body None = body.Children None None None
 children_body (Some r) = body.Children r.min_children r.max_children r.total_children
 
 -- the first of the buckets is the count of true
-abbrev pub first_of : List ℕ → Option ℕ
-first_of [] = None
-first_of (n ∷ ns) = Some n
+abbrev pub first_bucket : List ℕ → Option ℕ
+first_bucket [] = None
+first_bucket (n ∷ ns) = Some n
 
 -- what a message tells of booleans
 abbrev pub bools_body : Option BucketStatistics → Body
 bools_body None = body.Bools None
-bools_body (Some r) = body.Bools (first_of r.count)
+bools_body (Some r) = body.Bools (first_bucket r.count)
 
 -- the record of the column's kind alone counts
 abbrev pub body_read : StatKind → ColumnStats → Body

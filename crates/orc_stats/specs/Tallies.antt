@@ -15,9 +15,9 @@ pub record Joins (P : Type 0) : Type 0 where
   pub orderly : IsOrderly join
 
 -- what several parts keep together
-abbrev pub all : {P : Type 0} → Joins P → List P → P
-all j [] = j.none
-all j (p ∷ ps) = j.join p (all j ps)
+abbrev pub parts_together : {P : Type 0} → Joins P → List P → P
+parts_together j [] = j.none
+parts_together j (p ∷ ps) = j.join p (parts_together j ps)
 
 -- what is counted of the values of one kind of column: of a cell, of a statistic that has values; and
 -- the body of a statistic that comes of it

@@ -5,15 +5,15 @@ ghost use Rattle.orc_stats.specs.Seen.{both, seen_of, known_of};
 ghost use Rattle.orc_stats.specs.Statistics.{in_64 as fit, in_u64 as room};
 ghost use Rattle.orc_stats.specs.Joining.{in_limit as limit};
 ghost use Rattle.orc_stats.specs.declared.seen.Seen.TheVariants.{Known};
-ghost use Rattle.orc_stats.specs.Sizes.{size, count_size};
+ghost use Rattle.orc_stats.specs.Sizes.{total_size, count_size};
 
 use crate::seen::Seen;
 
 /// The total of both.
 pub(crate) fn plus(one: Seen<i128>, other: Seen<i128>) -> Seen<i128>
-    requires { size one + size other < 2 ^ 127 }
+    requires { total_size one + total_size other < 2 ^ 127 }
     ensures total { result ≡ both ◌+ℤ◌ one other }
-    ensures size { size result ≤ size one + size other }
+    ensures size { total_size result ≤ total_size one + total_size other }
 {
     match (one, other) {
         (Seen::Nothing, part) | (part, Seen::Nothing) => part,
@@ -25,9 +25,9 @@ pub(crate) fn plus(one: Seen<i128>, other: Seen<i128>) -> Seen<i128>
 /// Adds a number to a total.
 #[inline(always)]
 pub(crate) fn add_to(total: &mut Seen<i128>, number: i128)
-    requires { size total.old + unsigned_abs number < 2 ^ 127 }
+    requires { total_size total.old + unsigned_abs number < 2 ^ 127 }
     ensures total { total.new ≡ both ◌+ℤ◌ total.old (Known number) }
-    ensures size { size total.new ≤ size total.old + unsigned_abs number }
+    ensures size { total_size total.new ≤ total_size total.old + unsigned_abs number }
 {
     match total {
         Seen::Known(sum) => *sum += number,
@@ -39,7 +39,7 @@ pub(crate) fn add_to(total: &mut Seen<i128>, number: i128)
 /// The total of a statistic that has values.
 pub(crate) fn total_of(sum: Option<i64>) -> Seen<i128>
     ensures total { result ≡ seen_of sum }
-    ensures size { size result ≤ 2 ^ 64 }
+    ensures size { total_size result ≤ 2 ^ 64 }
 {
     match sum {
         Some(total) => Seen::Known(i128::from(total)),

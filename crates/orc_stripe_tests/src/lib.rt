@@ -1,20 +1,7 @@
-//! Tests by public calls of `orc_stripe` and of the crates below it: of `orc_bits` (zigzag, varints, widths, packed numbers),
-//! of `orc_wire` (fields, numbers, directories, statistics), of `orc_rle` and `orc_positions` (runs, positions in streams of
-//! them), of `orc_types` and `orc_values`, of `orc_json` and `orc_json_reader`, of `orc_row_batch`, `orc_stats` and
-//! `orc_column_walk`, of what makes a stripe and reads it. They stand apart, so that none of these is proved again with
-//! them, and together, since a crate of tests takes more than a minute before its first test.
-//! What no file shows that the program reads or writes stands here; the rest stands in vectors/ and scripts/cases/. What a
-//! statistic says, how it joins and how it is written is told by what the program makes of files, but for a tally of both
-//! cells and statistics. So is that the columns of a stripe are read and counted, or refused; but no file can tell of more
-//! rows than a stripe may have.
+//! Tests by public calls of `orc_stripe`, of what makes a stripe and reads it. They stand apart, so that it isn't proved
+//! again with them; those that need no stripe stand in `orc_column_tests`.
+//! What no file shows that the program reads or writes stands here; the rest stands in vectors/ and scripts/cases/.
 #![tactic(auto)]
-
-#[cfg(test)]
-mod bits;
-#[cfg(test)]
-mod messages;
-#[cfg(test)]
-mod runs;
 
 /// What a check answers, which is asked again where memory was refused once. Its answer is then demanded. A closure
 /// would be proved anew in each test.
@@ -31,20 +18,8 @@ macro_rules! with_memory {
 #[cfg(test)]
 mod assertions;
 #[cfg(test)]
-mod column_walk;
-#[cfg(test)]
-mod entering;
-#[cfg(test)]
 mod indexes;
 #[cfg(test)]
-mod json;
-#[cfg(test)]
 mod reading;
-#[cfg(test)]
-mod row_batch;
-#[cfg(test)]
-mod stats;
-#[cfg(test)]
-mod types;
 #[cfg(test)]
 mod writing;

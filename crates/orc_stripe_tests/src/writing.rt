@@ -4,7 +4,7 @@ ghost use Rattle.orc_values.specs.Fits.{RowsFit, fits};
 ghost use Rattle.orc_values.specs.Views.{view, views};
 
 use crate::assertions::{demand, passes};
-use orc_json_reader::RowReader;
+use orc_json::RowReader;
 use orc_rle::Rle;
 use orc_stripe::{Options, StripeFault, StripeOut, are_few, write_stripe};
 use orc_test_kit::schema_of;

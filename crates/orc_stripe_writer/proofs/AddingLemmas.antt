@@ -9,11 +9,11 @@ use Rattle.orc_wire.specs.declared.encoding.Encoding.{Encoding}
 use Rattle.orc_values.specs.Shapes.{Shape}
 use Rattle.orc_values.specs.Cells.{Cell, is_value, values}
 use Rattle.orc_stripe_writer.specs.declared.body.Body.{Body}
-use Rattle.orc_column_reader.specs.Spellings.{size, joined}
+use Rattle.orc_column_reader.specs.Spellings.{size, concatenated}
 use Rattle.orc_column_reader.specs.Stripe.{plain}
 use Rattle.orc_stripe_writer.specs.Dictionary.{AreDistinct, AreNamed, is_worth}
 use Rattle.orc_stripe_writer.specs.WrittenStreams.{AreWrittenInts, AreWrittenMarks}
-use Rattle.orc_stripe_writer.specs.WrittenColumn.{Written, direct, dictionary, HasBits, HasBytes, HasNumbers, HasStrings, HasDictionary, HasTextsIf, HasTexts, HasSizes, HasNothing, WritesValues}
+use Rattle.orc_stripe_writer.specs.WrittenColumn.{Written, direct, dictionary, WritesBooleans, HasBytes, HasNumbers, HasStrings, HasDictionary, HasTextsIf, HasTexts, HasSizes, HasNothing, WritesValues}
 use Rattle.orc_stripe_writer.specs.WrittenStripe.{line}
 use Rattle.orc_stripe_writer.specs.Adding.{AddsStream, AddsValues, AddsColumn}
 
@@ -65,9 +65,9 @@ content_added P S c e k o d is h s =
     adds_streams P IsNothing IsNothing S c e o d d d h (nothing c 2 d) (nothing c 3 d)
     (λ marks content lengths dictionary_data p l r. s _ p (λ i. record { encoding = is i; marks = marks; content = content; lengths = l i; dictionary_data = r i }))
 
-pub bits_added : (c : ℕ) (o d : Body) (e : Encoding) (bs cs : List Bool) → e ≡ plain → bs ≡ cs → AddsStream (IsBitText bs) c 1 o d → AddsValues (λ w. HasBits w cs) c o d e
+pub bits_added : (c : ℕ) (o d : Body) (e : Encoding) (bs cs : List Bool) → e ≡ plain → bs ≡ cs → AddsStream (IsBitText bs) c 1 o d → AddsValues (λ w. WritesBooleans w cs) c o d e
 bits_added c o d e bs cs k q h =
-    content_added (IsBitText bs) (λ w. HasBits w cs) c e plain o d k h (λ w p others. record { content_is = subst (λ xs. IsBitText xs w.content) q p; others = others })
+    content_added (IsBitText bs) (λ w. WritesBooleans w cs) c e plain o d k h (λ w p others. record { content_is = subst (λ xs. IsBitText xs w.content) q p; others = others })
 
 pub bytes_added : (c : ℕ) (o d : Body) (e : Encoding) (bs cs : List ℕ) → e ≡ plain → bs ≡ cs → AddsStream (IsWritten byte_rule bs) c 1 o d → AddsValues (λ w. HasBytes w cs) c o d e
 bytes_added c o d e bs cs k q h =
@@ -86,9 +86,9 @@ sizes_added rle c o d e ns ms k q h =
     })
 
 pub groups_added : (rle : Rle) (c : ℕ) (o a d : Body) (e : Encoding) (ns : List ℤ) (ps : List (List ℕ)) → e ≡ direct rle → ns ≡ map size ps
-    → AddsStream (λ text. text ≡ joined ps) c 1 o a → AddsStream (AreWrittenInts rle Unsigned ns) c 2 a d → AddsValues (λ w. HasStrings rle w ps) c o d e
+    → AddsStream (λ text. text ≡ concatenated ps) c 1 o a → AddsStream (AreWrittenInts rle Unsigned ns) c 2 a d → AddsValues (λ w. HasStrings rle w ps) c o d e
 groups_added rle c o a d e ns ps k q g h =
-    adds_streams (λ text. text ≡ joined ps) (AreWrittenInts rle Unsigned ns) IsNothing (λ w. HasStrings rle w ps) c e o a d d g h (nothing c 3 d)
+    adds_streams (λ text. text ≡ concatenated ps) (AreWrittenInts rle Unsigned ns) IsNothing (λ w. HasStrings rle w ps) c e o a d d g h (nothing c 3 d)
     (λ marks content lengths dictionary_data n p r. record {
       content_is = n;
       lengths_are = subst (λ xs. AreWrittenInts rle Unsigned xs lengths) q p;
@@ -103,10 +103,10 @@ struct_added c o e k =
 
 -- places in a dictionary, and the dictionary
 pub words_added : (rle : Rle) (c : ℕ) (o a b d : Body) (e : Encoding) (places others ls : List ℤ) (entries texts : List (List ℕ)) → e ≡ dictionary rle (length entries) → others ≡ places → ls ≡ map size entries → AreNamed entries places texts
-    → AddsStream (AreWrittenInts rle Unsigned others) c 1 o a → AddsStream (AreWrittenInts rle Unsigned ls) c 2 a b → AddsStream (λ text. text ≡ joined entries) c 3 b d
+    → AddsStream (AreWrittenInts rle Unsigned others) c 1 o a → AddsStream (AreWrittenInts rle Unsigned ls) c 2 a b → AddsStream (λ text. text ≡ concatenated entries) c 3 b d
     → AddsValues (λ w. HasDictionary rle w entries texts) c o d e
 words_added rle c o a b d e places others ls entries texts k s q n f g h =
-    adds_streams (AreWrittenInts rle Unsigned others) (AreWrittenInts rle Unsigned ls) (λ text. text ≡ joined entries) (λ w. HasDictionary rle w entries texts) c e o a b d f g h
+    adds_streams (AreWrittenInts rle Unsigned others) (AreWrittenInts rle Unsigned ls) (λ text. text ≡ concatenated entries) (λ w. HasDictionary rle w entries texts) c e o a b d f g h
     (λ marks content lengths dictionary_data x y z. record {
       places = places;
       named = n;

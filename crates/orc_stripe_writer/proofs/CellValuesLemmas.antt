@@ -13,7 +13,7 @@ use Rattle.orc_values.specs.Views.{view, views}
 use Rattle.orc_values.specs.declared.lent.Lent.{Lent}
 use Rattle.orc_values.specs.declared.value.Value.{Value}
 use Rattle.orc_stripe_writer.specs.declared.byte_string.ByteString.{ByteString}
-use Rattle.orc_column_reader.specs.Spellings.{joined}
+use Rattle.orc_column_reader.specs.Spellings.{concatenated}
 use Rattle.orc_column_reader.specs.Columns.{IsBool, IsByte, IsInt, IsDate, IsText, IsBinary}
 use Rattle.orc_stripe_writer.specs.CellValues.{bools_in, ints_in, number_bytes_in, all_bytes_in, byte_of}
 use Rattle.orc_stripe_writer.specs.Dictionary.{byte_strings}
@@ -126,7 +126,7 @@ binaries_stand o (list xs ∷ cs) h = let wrong = h.0 in cc
 binaries_stand o (struct xs ∷ cs) h = let wrong = h.0 in cc
 binaries_stand o (pairs ps ∷ cs) h = let wrong = h.0 in cc
 
-pub joined_is : (ps : List ByteString) → joined (byte_strings ps) ≡ flat_map (λ (p : ByteString). p.0.now) ps
+pub joined_is : (ps : List ByteString) → concatenated (byte_strings ps) ≡ flat_map (λ (p : ByteString). p.0.now) ps
 joined_is [] = refl
 joined_is (p ∷ ps) = ap (λ bs. p.0.now ++ bs) (joined_is ps)
 

@@ -7,9 +7,7 @@ use Rattle.std.proofs.lemmas.List.{take_all}
 use Rattle.std.proofs.lemmas.Map.Keys.{IsDistinct-push}
 use Rattle.orc_stripe_writer.specs.Dictionary.{is_worth}
 use Rattle.orc_stripe_writer.specs.DictionaryChoice.{AreEachOnce, HasTooMany}
-
-untrue : false ≡ true → ⊥
-untrue h = cc
+use Rattle.std.proofs.lemmas.Bool.{false≢true}
 
 module _ {K : Type 0} {eq : K → K → Bool} (laws : IsEquivalence eq) where
   -- the keys of a set are the items that have been found
@@ -68,8 +66,8 @@ module _ {K : Type 0} {eq : K → K → Bool} (laws : IsEquivalence eq) where
   or_within false l r f h = f h
 
   not_any : (p : K → Bool) (xs : List K) → list_any p (take zero xs) ≡ true → ⊥
-  not_any p [] h = untrue h
-  not_any p (x ∷ xs) h = untrue h
+  not_any p [] h = false≢true h
+  not_any p (x ∷ xs) h = false≢true h
 
   within_all : (p : K → Bool) (xs : List K) (i : ℕ) → list_any p (take i xs) ≡ true → list_any p xs ≡ true
   within_all p xs zero h = absurd (not_any p xs h)

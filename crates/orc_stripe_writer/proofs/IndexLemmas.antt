@@ -1,28 +1,22 @@
 -- The indexes of columns, one after the other.
-use Rattle.std.proofs.Common.{◌≡◌, ℕ, zero, suc, ◌+◌, ◌<◌, ◌≤◌, Some, List, [], ◌∷◌, ◌++◌, length, slice_get, refl, sym, ap, ◌∙◌, subst, arith, inl, inr, ◌⊎◌, append-nil, append_assoc, length-append}
+use Rattle.std.proofs.Common.{◌≡◌, ℕ, zero, suc, ◌+◌, ◌<◌, ◌≤◌, Some, List, [], ◌∷◌, ◌++◌, length, slice_get, refl, sym, ap, ◌∙◌, subst, arith, inl, inr, append-nil, append_assoc, length-append}
 use Rattle.orc_values.specs.Shapes.{Shape, shape_at}
 use Rattle.orc_values.specs.Cells.{Cell}
 use Rattle.orc_values.specs.Columns.{cells}
 use Rattle.orc_row_index.specs.RowIndex.{IsWrittenIndex}
 use Rattle.orc_stripe_writer.specs.declared.body.Body.{Body}
 use Rattle.orc_stripe_writer.specs.Firsts.{firsts_of}
-use Rattle.orc_stripe_writer.specs.Groups.{starts, bounds_of}
+use Rattle.orc_row_groups.specs.Groups.{starts_of_groups, bounds_of}
 use Rattle.orc_stripe_writer.specs.IndexSteps.{AddsIndexIf}
 use Rattle.orc_stripe_writer.specs.Indexes.{streams_written, index_line, index_lines, index_bytes, HaveIndexes, AddsIndex}
 use Rattle.orc_stripe_writer.specs.WrittenColumn.{Written}
 use Rattle.orc_stripe_writer.specs.WrittenStripe.{indexed_columns}
 use Rattle.orc_stripe_writer.proofs.WrittenReads.{column_at, there}
+use Rattle.orc_values.proofs.Lists.{pushed_get}
+use Rattle.orc_row_groups.specs.Bounds.{AreBounds}
+use Rattle.orc_row_groups.proofs.GroupLemmas.{starts_are_bounds}
 
 -- ---- lists
-
-pub pushed_get : {X : Type 0} (xs : List X) (y : X) (c : ℕ) (r : X) → slice_get (xs ++ y ∷ []) c ≡ Some r → (slice_get xs c ≡ Some r) ⊎ ((c ≡ length xs) × (y ≡ r))
-pushed_get [] y zero r e = inr (refl, cc)
-pushed_get [] y (suc c) r e = absurd cc
-pushed_get (x ∷ xs) y zero r e = inl e
-pushed_get (x ∷ xs) y (suc c) r e = elim (pushed_get xs y c r e) [
-  | inl h ↦ inl h
-  | inr h ↦ inr (omega (arith, h.0), h.1)
-]
 
 pub get_within : {X : Type 0} (xs : List X) (c : ℕ) (x : X) → slice_get xs c ≡ Some x → c < length xs
 get_within [] c x h = cc
@@ -111,7 +105,7 @@ indexes_grow (suc k) s rows firsts columns w n old new many h a =
 
 -- without a stride no group is told of, and there is no index
 pub indexed_by_starts : (stride : ℕ) (s : Shape) (rows : List Cell) (columns : List Written) (n : ℕ) (body : Body) → HaveIndexes s rows (firsts_of stride (length rows)) columns (indexed_columns stride n) body
-    → HaveIndexes s rows (starts stride (length rows)) columns (indexed_columns stride n) body
+    → HaveIndexes s rows (starts_of_groups stride (length rows)) columns (indexed_columns stride n) body
 indexed_by_starts zero s rows columns n body h = record {
   indexes = h.indexes;
   are = record { counted = h.are.counted; each = λ c w t p q. absurd (let less = get_within h.indexes c t q in omega (arith, less, h.are.counted)) };
@@ -119,3 +113,10 @@ indexed_by_starts zero s rows columns n body h = record {
   lines_are = h.lines_are;
 }
 indexed_by_starts (suc k) s rows columns n body h = h
+
+-- ---- the rows with which groups begin
+
+-- so are those of a stripe's indexes, of which there are none without a stride
+pub firsts_are_bounds : (stride rows : ℕ) → AreBounds rows (firsts_of stride rows)
+firsts_are_bounds zero rows g = omega arith
+firsts_are_bounds (suc k) rows g = starts_are_bounds (suc k) rows (omega arith) g

@@ -1,5 +1,5 @@
 -- The column that was written last: its streams are found in its bytes and spell its cells, and it joins those before.
-use Rattle.std.proofs.Common.{◌≡◌, ℕ, zero, suc, ◌+◌, ◌-◌, ◌<◌, ◌^◌, ◌&&◌, Bool, true, false, nat_le, if◌then◌else◌, List, [], ◌∷◌, ◌++◌, length, take, drop, refl, sym, ap, ◌∙◌, subst, arith, append-nil, length-drop}
+use Rattle.std.proofs.Common.{◌≡◌, ℕ, zero, suc, ◌+◌, ◌-◌, ◌<◌, ◌^◌, Bool, true, false, nat_le, if◌then◌else◌, List, [], ◌∷◌, ◌++◌, length, take, drop, refl, sym, ap, ◌∙◌, subst, arith, append-nil, length-drop}
 use Rattle.orc_rle.specs.declared.sign.Rle.{Rle}
 use Rattle.orc_wire.specs.declared.encoding.Encoding.{Encoding}
 use Rattle.orc_wire.specs.declared.stripe_footer.StreamMsg.{StreamMsg}
@@ -10,22 +10,24 @@ use Rattle.orc_stats.specs.declared.stat.Stat.{Stat}
 use Rattle.orc_stats.specs.Kinds.{kind_of}
 use Rattle.orc_stats.specs.Statistics.{stat}
 use Rattle.orc_row_index.specs.RowIndex.{IsWrittenIndex}
-use Rattle.orc_column_reader.specs.Directory.{is_of, have_room, slice}
+use Rattle.orc_directory.specs.Directory.{is_stream_of, have_room, slice}
 use Rattle.orc_column_reader.specs.Stripe.{IsColumn}
 use Rattle.orc_stripe_writer.specs.Adding.{AddsColumn}
 use Rattle.orc_stripe_writer.specs.Firsts.{firsts_of}
-use Rattle.orc_stripe_writer.specs.Groups.{bounds_of}
+use Rattle.orc_row_groups.specs.Groups.{bounds_of}
 use Rattle.orc_stripe_writer.specs.IndexSteps.{AddsIndexIf}
 use Rattle.orc_stripe_writer.specs.Indexes.{streams_written, HaveIndexes}
 use Rattle.orc_stripe_writer.specs.Subtrees.{HasWritten}
 use Rattle.orc_stripe_writer.specs.WrittenColumn.{Written}
-use Rattle.orc_stripe_writer.specs.WrittenStripe.{column_bytes, column_lines, indexed_columns, column_stat, HaveStats}
+use Rattle.orc_stripe_writer.specs.WrittenStripe.{column_bytes, column_lines, indexed_columns, HaveStats}
+use Rattle.orc_stats.specs.ColumnStatistics.{column_stat}
 use Rattle.orc_stripe_writer.specs.declared.body.Body.{Body}
 use Rattle.orc_stripe_writer.specs.declared.columns.Columns.{Columns}
 use Rattle.orc_stripe_writer.proofs.IndexLemmas.{IsIndexOf, no_indexes, indexes_grow}
 use Rattle.orc_stripe_writer.proofs.WrittenColumns.{more_columns, more_stats}
 use Rattle.orc_stripe_writer.proofs.WrittenDirectory.{drop_front, AreFound, column_found, column_room}
 use Rattle.orc_stripe_writer.proofs.WrittenReads.{column_read}
+use Rattle.std.proofs.lemmas.Bool.{and_parts}
 
 -- ---- one stream among the lines of a directory
 
@@ -37,23 +39,19 @@ pub record Looking (column kind : ℕ) (lines left : List StreamMsg) (bytes rest
 pub looking_starts : (column kind : ℕ) (lines : List StreamMsg) (bytes : List ℕ) → have_room (length bytes) lines ≡ true → Looking column kind lines lines bytes bytes
 looking_starts column kind lines bytes room = record { room = room; same = refl }
 
-both : (a b : Bool) → a && b ≡ true → (a ≡ true) × (b ≡ true)
-both true b e = (refl, e)
-both false b e = absurd cc
-
 pub looking_room : (column kind : ℕ) (lines : List StreamMsg) (m : StreamMsg) (left : List StreamMsg) (bytes rest : List ℕ) → Looking column kind lines (m ∷ left) bytes rest → nat_le m.length (length rest) ≡ true
-looking_room column kind lines m left bytes rest h = (both (nat_le m.length (length rest)) (have_room (length rest - m.length) left) h.room).0
+looking_room column kind lines m left bytes rest h = (and_parts (nat_le m.length (length rest)) (have_room (length rest - m.length) left) h.room).0
 
-pub looking_goes : (column kind : ℕ) (lines : List StreamMsg) (m : StreamMsg) (left : List StreamMsg) (bytes rest more : List ℕ) → is_of column kind m ≡ false → more ≡ drop m.length rest
+pub looking_goes : (column kind : ℕ) (lines : List StreamMsg) (m : StreamMsg) (left : List StreamMsg) (bytes rest more : List ℕ) → is_stream_of column kind m ≡ false → more ≡ drop m.length rest
     → Looking column kind lines (m ∷ left) bytes rest → Looking column kind lines left bytes more
 looking_goes column kind lines m left bytes rest more e is h =
-    let k = both (nat_le m.length (length rest)) (have_room (length rest - m.length) left) h.room in
+    let k = and_parts (nat_le m.length (length rest)) (have_room (length rest - m.length) left) h.room in
     subst (λ (t : List ℕ). Looking column kind lines left bytes t) (sym is) (record {
       room = ap (λ n. have_room n left) (length-drop m.length rest) ∙ k.1;
       same = sym (ap (λ (b : Bool). if b then take m.length rest else slice column kind left (drop m.length rest)) e) ∙ h.same;
     })
 
-pub looking_found : (column kind : ℕ) (lines : List StreamMsg) (m : StreamMsg) (left : List StreamMsg) (bytes rest own : List ℕ) → is_of column kind m ≡ true → own ≡ take m.length rest
+pub looking_found : (column kind : ℕ) (lines : List StreamMsg) (m : StreamMsg) (left : List StreamMsg) (bytes rest own : List ℕ) → is_stream_of column kind m ≡ true → own ≡ take m.length rest
     → Looking column kind lines (m ∷ left) bytes rest → own ≡ slice column kind lines bytes
 looking_found column kind lines m left bytes rest own e is h = is ∙ sym (ap (λ (b : Bool). if b then take m.length rest else slice column kind left (drop m.length rest)) e) ∙ h.same
 

@@ -10,7 +10,6 @@ pub mod WrittenReads
 pub mod WrittenColumns
 pub mod OneWritten
 pub mod SubtreeLemmas
-pub mod GroupLemmas
 pub mod IndexLemmas
 pub mod StripeReads
 pub mod StripeLaws

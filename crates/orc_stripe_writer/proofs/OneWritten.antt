@@ -9,22 +9,22 @@ use Rattle.orc_rle.specs.declared.sign.Rle.{Rle}
 use Rattle.orc_rle.specs.declared.sign.Rle.TheVariants.{One, Two}
 use Rattle.orc_rle.specs.declared.sign.Sign.{Sign}
 use Rattle.orc_rle.specs.declared.sign.Sign.TheVariants.{Signed, Unsigned}
-use Rattle.orc_rle.specs.WrittenLaws.{one_text_one}
-use Rattle.orc_rle.specs.TwoWrittenLaws.{one_text_two}
-use Rattle.orc_rle.specs.ByteLaws.{one_byte_text}
-use Rattle.orc_rle.specs.BitLaws.{one_bit_text}
+use Rattle.orc_rle.specs.laws.WrittenLaws.{one_text_one}
+use Rattle.orc_rle.specs.laws.TwoWrittenLaws.{one_text_two}
+use Rattle.orc_rle.proofs.ByteLaws.{one_byte_text}
+use Rattle.orc_rle.proofs.BitLaws.{one_bit_text}
 use Rattle.orc_wire.specs.declared.encoding.Encoding.{Encoding}
 use Rattle.orc_values.specs.declared.kind.Scalar.{Scalar}
 use Rattle.orc_values.specs.declared.kind.Scalar.TheVariants as kind
 use Rattle.orc_values.specs.Shapes.{Shape, scalar, list_of, map_of, struct_of, shape_at}
 use Rattle.orc_values.specs.Cells.{Cell, leaf, int, is_value, parts, pairs_in, values}
 use Rattle.orc_values.specs.Columns.{cells}
-use Rattle.orc_column_reader.specs.Spellings.{size, joined}
+use Rattle.orc_column_reader.specs.Spellings.{size, concatenated}
 use Rattle.orc_column_reader.specs.Columns.{IsBool, IsByte, IsInt, IsDate, IsText, IsBinary, signed_byte}
 use Rattle.orc_column_reader.specs.Stripe.{plain}
-use Rattle.orc_stripe_writer.specs.Dictionary.{entry_at, AreNamed, is_worth}
+use Rattle.orc_stripe_writer.specs.Dictionary.{dictionary_entry, AreNamed, is_worth}
 use Rattle.orc_stripe_writer.specs.WrittenStreams.{AreWrittenInts, AreMarksIf}
-use Rattle.orc_stripe_writer.specs.WrittenColumn.{Written, direct, HasBits, HasBytes, HasNumbers, HasStrings, HasDictionary, HasTextsIf, HasTexts, HasSizes, WritesScalar, WritesValues, IsWrittenColumn}
+use Rattle.orc_stripe_writer.specs.WrittenColumn.{Written, direct, WritesBooleans, HasBytes, HasNumbers, HasStrings, HasDictionary, HasTextsIf, HasTexts, HasSizes, WritesScalar, WritesValues, IsWrittenColumn}
 use Rattle.orc_stripe_writer.specs.WrittenStripe.{AreWrittenColumns}
 use Rattle.orc_stripe_writer.proofs.DictionaryLemmas.{less_in, not_itself, one_distinct}
 
@@ -101,7 +101,7 @@ one_place (e ∷ es) (suc i) zero t h p q =
     let same : e ≡ t = cc in absurd (not_itself e (subst (λ (z : List ℕ). slice_cmp nat_cmp e z ≡ Less) (sym same) (less_in e t es h.0 (entry_in es i t p))))
 one_place (e ∷ es) (suc i) (suc j) t h p q = ap suc (one_place es i j t h.1 p q)
 
-place_of : (es : List (List ℕ)) (n m : ℤ) (t : List ℕ) → IsStrictlySortedBy (slice_cmp nat_cmp) es → entry_at es n ≡ Some t → entry_at es m ≡ Some t → n ≡ m
+place_of : (es : List (List ℕ)) (n m : ℤ) (t : List ℕ) → IsStrictlySortedBy (slice_cmp nat_cmp) es → dictionary_entry es n ≡ Some t → dictionary_entry es m ≡ Some t → n ≡ m
 place_of es (pos i) (pos j) t h p q = ap pos (one_place es i j t h p q)
 place_of es (pos i) (negsuc j) t h p q = cc
 place_of es (negsuc i) m t h p q = cc
@@ -113,10 +113,10 @@ one_places es [] (n ∷ a) b h p q = cc
 one_places es (t ∷ ts) [] b h p q = cc
 one_places es (t ∷ ts) (n ∷ a) [] h p q = cc
 one_places es (t ∷ ts) (n ∷ a) (m ∷ b) h p q =
-    let x : entry_at es n ≡ Some t = cc in
-    let y : entry_at es m ≡ Some t = cc in
-    let xs : map (entry_at es) a ≡ map Some ts = cc in
-    let ys : map (entry_at es) b ≡ map Some ts = cc in
+    let x : dictionary_entry es n ≡ Some t = cc in
+    let y : dictionary_entry es m ≡ Some t = cc in
+    let xs : map (dictionary_entry es) a ≡ map Some ts = cc in
+    let ys : map (dictionary_entry es) b ≡ map Some ts = cc in
     let first : n ≡ m = place_of es n m t h x y in
     let rest : a ≡ b = one_places es ts a b h xs ys in
     λ i. first i ∷ rest i
@@ -127,7 +127,7 @@ one_places es (t ∷ ts) (n ∷ a) (m ∷ b) h p q =
 abbrev filled : Encoding → List ℕ → List ℕ → List ℕ → List ℕ → Written
 filled e marks content lengths dictionary_data = record { encoding = e; marks = marks; content = content; lengths = lengths; dictionary_data = dictionary_data }
 
-one_bits : (w v : Written) (a b : List Bool) → w.marks ≡ v.marks → a ≡ b → HasBits w a → HasBits v b → w ≡ v
+one_bits : (w v : Written) (a b : List Bool) → w.marks ≡ v.marks → a ≡ b → WritesBooleans w a → WritesBooleans v b → w ≡ v
 one_bits w v a b m e p q =
     let content = one_bit_text b w.content v.content (subst (λ xs. IsBitTextOf xs w) e p.content_is) q.content_is in
     p.others ∙ (λ i. filled plain (m i) (content i) [] []) ∙ sym q.others
@@ -148,7 +148,7 @@ one_numbers rle w v a b m e p q =
 
 one_groups : (rle : Rle) (w v : Written) (a b : List (List ℕ)) → w.marks ≡ v.marks → a ≡ b → HasStrings rle w a → HasStrings rle v b → w ≡ v
 one_groups rle w v a b m e p q =
-    let content : w.content ≡ v.content = p.content_is ∙ ap joined e ∙ sym q.content_is in
+    let content : w.content ≡ v.content = p.content_is ∙ ap concatenated e ∙ sym q.content_is in
     let lengths = one_ints rle Unsigned (map size a) (map size b) w.lengths v.lengths (ap (map size) e) p.lengths_are q.lengths_are in
     p.others ∙ (λ i. filled (direct rle) (m i) (content i) (lengths i) []) ∙ sym q.others
 

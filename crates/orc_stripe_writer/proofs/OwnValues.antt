@@ -10,8 +10,9 @@ use Rattle.orc_values.specs.declared.own.Own.{Own}
 use Rattle.orc_values.proofs.Childless.{marks_childless, elements_many, pairs_many}
 use Rattle.orc_stats.specs.Statistics.{bool_of}
 use Rattle.orc_column_reader.specs.Spellings.{size}
-use Rattle.orc_row_index.specs.OwnCells.{own_cells, AreOwn}
+use Rattle.orc_row_groups.specs.OwnCells.{own_cells, AreOwn}
 use Rattle.orc_stripe_writer.specs.CellValues.{int_in, byte_of, bytes_in, bools_in, ints_in, number_bytes_in, all_bytes_in, sizes_in}
+use Rattle.orc_stats.proofs.Childless.{bool_childless}
 
 pub own_marks : (owns : List Own) (cells : List Cell) → AreOwn owns cells → map is_value (own_cells owns) ≡ map is_value cells
 own_marks owns cells h = ap (map is_value) h ∙ marks_childless cells
@@ -20,13 +21,6 @@ own_marks owns cells h = ap (map is_value) h ∙ marks_childless cells
 each_childless : {A : Type 0} (found : Cell → List A) → ((c : Cell) → found (childless c) ≡ found c) → (cs : List Cell) → flat_map found (map childless cs) ≡ flat_map found cs
 each_childless found one [] = refl
 each_childless found one (c ∷ cs) = λ i. one c i ++ each_childless found one cs i
-
-bool_one : (c : Cell) → bool_of (childless c) ≡ bool_of c
-bool_one null = refl
-bool_one (leaf a) = refl
-bool_one (list cs) = refl
-bool_one (struct cs) = refl
-bool_one (pairs ps) = refl
 
 int_one : (c : Cell) → int_in (childless c) ≡ int_in c
 int_one null = refl
@@ -43,7 +37,7 @@ bytes_one (struct cs) = refl
 bytes_one (pairs ps) = refl
 
 pub own_bools : (owns : List Own) (cells : List Cell) → AreOwn owns cells → bools_in (own_cells owns) ≡ bools_in cells
-own_bools owns cells h = ap bools_in h ∙ each_childless (λ c. option_to_list (bool_of c)) (λ c. ap option_to_list (bool_one c)) cells
+own_bools owns cells h = ap bools_in h ∙ each_childless (λ c. option_to_list (bool_of c)) (λ c. ap option_to_list (bool_childless c)) cells
 
 pub own_ints : (owns : List Own) (cells : List Cell) → AreOwn owns cells → ints_in (own_cells owns) ≡ ints_in cells
 own_ints owns cells h = ap ints_in h ∙ each_childless (λ c. option_to_list (int_in c)) (λ c. ap option_to_list (int_one c)) cells

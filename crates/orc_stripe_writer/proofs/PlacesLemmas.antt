@@ -9,16 +9,14 @@ use Rattle.orc_rle.specs.declared.sign.Sign.{Sign}
 use Rattle.orc_rle.specs.Values.{InRange, AllInRange}
 use Rattle.orc_stripe_writer.specs.declared.byte_string.ByteString.{ByteString}
 use Rattle.std.specs.Option.{is_some}
-use Rattle.orc_stripe_writer.specs.Dictionary.{byte_strings, entry_at, AreNamed}
-use Rattle.orc_stripe_writer.specs.EntryIndexes.{same_bytes, ArePlaces}
+use Rattle.orc_stripe_writer.specs.Dictionary.{byte_strings, dictionary_entry, AreNamed}
+use Rattle.orc_stripe_writer.specs.EntryIndexes.{same_bytes, AreEntryPlaces}
 use Rattle.orc_stripe_writer.proofs.DictionaryLemmas.{from_map}
+use Rattle.std.proofs.lemmas.Bool.{false≢true}
 
 pub record ArePlacesOf (told : ByteString → Option ℕ) (entries : List (ByteString)) (i : ℕ) : Type 0 where
   pub known : (text : ByteString) → list_any (same_bytes text) (take i entries) ≡ true → is_some (told text) ≡ true
   pub named : (text : ByteString) → IfSome (told text) (λ place. slice_get (byte_strings entries) place ≡ Some text.0.now)
-
-pub untrue : false ≡ true → ⊥
-untrue h = cc
 
 pub string_there : (strings : List ByteString) (i : ℕ) (d : ByteString) → i < length strings → Contains (byte_strings strings) (get_or strings i d).0.now
 string_there strings i d lt = (i, omega (arith, lt, length-map strings (λ (p : ByteString). p.0.now)), get_or-map (λ (p : ByteString). p.0.now) strings i d _ lt)
@@ -30,7 +28,7 @@ named_more entries places strings i d p lt are is =
     let text = (get_or strings i d).0.now in
     let front = byte_strings (take i strings) in
     let more : byte_strings (take (i + 1) strings) ≡ front ++ text ∷ [] = map_more (λ (s : ByteString). s.0.now) strings i d lt in
-    map_push (entry_at entries) places (pos p) ∙ (λ j. are j ++ is j ∷ []) ∙ sym (map_push (λ (t : List ℕ). Some t) front text) ∙ ap (λ (ts : List (List ℕ)). map (λ (t : List ℕ). Some t) ts) (sym more)
+    map_push (dictionary_entry entries) places (pos p) ∙ (λ j. are j ++ is j ∷ []) ∙ sym (map_push (λ (t : List ℕ). Some t) front text) ∙ ap (λ (ts : List (List ℕ)). map (λ (t : List ℕ). Some t) ts) (sym more)
 
 place_at : (entries : List (ByteString)) (i : ℕ) (d : ByteString) → i < length entries → slice_get (byte_strings entries) i ≡ Some (get_or entries i d).0.now
 place_at [] i d lt = absurd (omega (arith, lt))
@@ -40,7 +38,7 @@ place_at (x ∷ xs) (suc i) d lt = place_at xs i d (omega (arith, lt))
 known_by : (s l : Bool) (i : ℕ) (o : Option ℕ) → (l ≡ true → is_some o ≡ true) → (l || s) ≡ true → is_some (cond s (Some i) o) ≡ true
 known_by true l i o f h = refl
 known_by false true i o f h = f refl
-known_by false false i o f h = absurd (untrue h)
+known_by false false i o f h = absurd (false≢true h)
 
 -- one entry more is told
 pub places_more : (told new : ByteString → Option ℕ) (entries : List (ByteString)) (i : ℕ) (key : ByteString) → i < length entries → key ≡ get_or entries i key → ArePlacesOf told entries i
@@ -58,7 +56,7 @@ places_more told new entries i key lt is found put = record {
     by_cases q false e = found.named q
 
 -- all entries are told
-pub all_places : (told : ByteString → Option ℕ) (entries : List (ByteString)) (i : ℕ) → length entries ≤ i → ArePlacesOf told entries i → ArePlaces told (byte_strings entries)
+pub all_places : (told : ByteString → Option ℕ) (entries : List (ByteString)) (i : ℕ) → length entries ≤ i → ArePlacesOf told entries i → AreEntryPlaces told (byte_strings entries)
 all_places told entries i le found = record {
   known = λ text c.
       let a = from_map (λ (t : ByteString). t.0.now) entries text.0.now c in

@@ -9,15 +9,17 @@ use Rattle.orc_values.specs.Columns.{cells}
 use Rattle.orc_values.specs.Fits.{RowsFit}
 use Rattle.orc_values.specs.Views.{shape, fields}
 use Rattle.orc_values.proofs.Together.{elements_fit, structs_fit, heads_fit, tails_fit}
-use Rattle.orc_row_index.specs.Bounds.{AreBounds, elements_before, pairs_before, values_before}
-use Rattle.orc_row_index.proofs.Groups.{element_bounds_are, keys_long, map_values_long, field_bounds_are}
+use Rattle.orc_row_groups.specs.Bounds.{AreBounds, elements_before, pairs_before, values_before}
+use Rattle.orc_row_groups.proofs.Groups.{element_bounds_are, keys_long, map_values_long, field_bounds_are}
 use Rattle.orc_stripe_writer.specs.Firsts.{firsts_of}
-use Rattle.orc_stripe_writer.specs.Groups.{AreGroupsFrom}
+use Rattle.orc_row_groups.specs.Groups.{AreGroupsFrom}
 use Rattle.orc_stripe_writer.specs.Standing.{ColumnStands, FieldsStand, structs_in}
 use Rattle.orc_stripe_writer.specs.WrittenStripe.{AreFew}
-use Rattle.orc_stripe_writer.specs.Subtrees.{AreColumnsFrom}
-use Rattle.orc_stripe_writer.proofs.GroupLemmas.{groups_at_root, groups_element, groups_pairs, groups_fields, groups_first, groups_others, pair_bounds_are, firsts_are_bounds, heads_long}
-use Rattle.orc_stripe_writer.proofs.SubtreeLemmas.{all_columns_from, cells_from, element_from, pairs_from, fields_from, pairs_fit, few_elements, few_pairs, few_fields, fields_at, nothing_dropped, dropped_more, few_first, few_others, first_from, others_from, none_after}
+use Rattle.orc_row_groups.specs.Subtrees.{AreColumnsFrom}
+use Rattle.orc_row_groups.proofs.GroupLemmas.{groups_at_root, groups_element, groups_pairs, groups_fields, groups_first, groups_others, pair_bounds_are, heads_long}
+use Rattle.orc_stripe_writer.proofs.IndexLemmas.{firsts_are_bounds}
+use Rattle.orc_stripe_writer.proofs.SubtreeLemmas.{pairs_fit, few_elements, few_pairs, few_fields, few_first, few_others}
+use Rattle.orc_row_groups.proofs.SubtreeLemmas.{all_columns_from, cells_from, element_from, pairs_from, fields_from, fields_at, nothing_dropped, dropped_more, first_from, others_from, none_after}
 
 -- a column stands over cells that are its own
 stands_over : (s : Shape) (rows : List Cell) (stride c : ℕ) (t : Shape) (column : List Cell) (bounds : List ℕ) → c + width t ≤ width s → AreColumnsFrom s rows c t column

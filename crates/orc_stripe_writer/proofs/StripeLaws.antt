@@ -1,36 +1,33 @@
 -- Laws of written stripes: there is one of rows, and its indexes are right for a reader.
-use Rattle.std.proofs.Common.{◌≡◌, ℕ, zero, suc, ◌+◌, ◌<◌, Bool, true, false, Option, Some, List, [], ◌∷◌, ◌++◌, map, length, slice_get, refl, sym, ap, ◌∙◌, subst, arith}
+use Rattle.std.proofs.Common.{◌≡◌, ℕ, zero, suc, ◌+◌, ◌<◌, true, Option, Some, List, [], ◌∷◌, ◌++◌, map, length, slice_get, refl, sym, ap, ◌∙◌, subst, arith}
 use Rattle.std.specs.List.{flat_map}
 use Rattle.orc_rle.specs.declared.sign.Rle.{Rle}
-use Rattle.orc_rle.specs.declared.sign.Sign.TheVariants.{Signed, Unsigned}
-use Rattle.orc_wire.specs.declared.encoding.Encoding.{Encoding}
 use Rattle.orc_wire.specs.declared.stripe_info.StripeInfo.{StripeInfo}
 use Rattle.orc_wire.specs.declared.stripe_footer.StripeFooter.{StripeFooter}
 use Rattle.orc_wire.specs.declared.stripe_footer.StreamMsg.{StreamMsg}
 use Rattle.orc_wire.specs.CanonicalMessages.{stripe_footer_text}
-use Rattle.orc_wire.specs.EncodingKinds.{is_dictionary}
 use Rattle.orc_values.specs.Cells.{Cell}
 use Rattle.orc_values.specs.Columns.{cells}
 use Rattle.orc_values.specs.Fits.{RowsFit}
-use Rattle.orc_values.specs.Shapes.{Shape, scalar, list_of, map_of, struct_of, width, shape_at}
-use Rattle.orc_values.specs.declared.kind.Scalar.TheVariants as kind
+use Rattle.orc_values.specs.Shapes.{Shape, width, shape_at}
 use Rattle.orc_values.proofs.Together.{cells_fit}
-use Rattle.orc_column_reader.specs.Directory.{has_stream, slice}
-use Rattle.orc_column_reader.specs.Stripe.{Streams, version_at, columns_of}
-use Rattle.orc_row_index.specs.Bounds.{before_group}
+use Rattle.orc_directory.specs.Directory.{has_stream, slice}
+use Rattle.orc_column_reader.specs.Stripe.{Streams, columns_of}
+use Rattle.orc_row_groups.specs.Bounds.{before_group}
 use Rattle.orc_row_index.specs.Positions.{ArePositions, reader, AreReadPositions}
-use Rattle.orc_row_index.specs.RowIndex.{IsRightIndex}
-use Rattle.orc_row_index.specs.RunStreams.{RunStream, bit_runs, byte_runs, number_runs, present_runs, text_runs, value_runs, text_octets, value_bytes}
+use Rattle.orc_row_index.specs.RowIndex.{IsRightIndex, HasRightIndex}
+use Rattle.orc_row_index.specs.RunStreams.{RunStream, present_runs, value_runs, value_bytes}
 use Rattle.orc_row_index.proofs.WrittenIndex.{one_index, index_right}
-use Rattle.orc_stripe_writer.specs.Groups.{starts, bounds_of}
+use Rattle.orc_row_groups.specs.Groups.{starts_of_groups, bounds_of}
 use Rattle.orc_stripe_writer.specs.Indexes.{streams_written, index_lines, index_bytes}
 use Rattle.orc_stripe_writer.specs.WrittenColumn.{Written}
-use Rattle.orc_stripe_writer.specs.WrittenStripe.{AreFew, column_bytes, lines_from, indexed_columns, IsWrittenStripe, HasRightIndex}
+use Rattle.orc_stripe_writer.specs.WrittenStripe.{AreFew, column_bytes, lines_from, indexed_columns, IsWrittenStripe}
 use Rattle.orc_stripe_writer.proofs.IndexLemmas.{get_within}
 use Rattle.orc_stripe_writer.proofs.OneWritten.{one_columns}
 use Rattle.orc_stripe_writer.proofs.StripeReads.{index_met, indexed_few, columns_found, column_encoded}
 use Rattle.orc_stripe_writer.proofs.WrittenDirectory.{from_zero, same_stream, other_column, after, AreFound}
 use Rattle.orc_stripe_writer.proofs.WrittenReads.{column_at, there}
+use Rattle.orc_row_index.proofs.SameStreams.{own_same, octets_same}
 
 -- ---- one text
 
@@ -54,7 +51,7 @@ one_stripe rle stride s rows i j a b p q =
     let w = column_at x.columns c in
     let here : slice_get x.columns c ≡ Some w = there x.columns c below in
     let other : slice_get y.columns c ≡ Some w = ap (λ (ws : List Written). slice_get ws c) (sym columns) ∙ here in
-    one_index (shape_at s c) (streams_written w) (cells s c rows) (bounds_of s c rows (starts stride (length rows))) t u (p.are.each c w t here at) (q.are.each c w u other too)) in
+    one_index (shape_at s c) (streams_written w) (cells s c rows) (bounds_of s c rows (starts_of_groups stride (length rows))) t u (p.are.each c w t here at) (q.are.each c w u other too)) in
     let streams : p.streams ≡ q.streams = x.joined ∙ ap (flat_map column_bytes) columns ∙ sym y.joined in
     let lines : p.lines ≡ q.lines = x.listed ∙ ap (lines_from 0) columns ∙ sym y.listed in
     let directory : p.footer.streams ≡ q.footer.streams = p.listed ∙ (λ k. index_lines 0 (indexes k) ++ lines k) ∙ sym q.listed in
@@ -66,45 +63,6 @@ one_stripe rle stride s rows i j a b p q =
     )
 
 -- ---- right for a reader
-
-texts_same : (p q : Bool) (x y : Streams) → p ≡ q → x.encoding ≡ y.encoding → x.stream 1 ≡ y.stream 1 → x.stream 2 ≡ y.stream 2 → text_runs p x ≡ text_runs q y
-texts_same true true x y t e a b = λ i. number_runs (version_at (e i).kind) Unsigned (a i)
-texts_same true false x y t e a b = cc
-texts_same false true x y t e a b = cc
-texts_same false false x y t e a b = λ i. number_runs (version_at (e i).kind) Unsigned (b i)
-
-contents_same : (p q : Bool) (x y : Streams) → p ≡ q → x.stream 1 ≡ y.stream 1 → text_octets p x ≡ text_octets q y
-contents_same true true x y t a = refl
-contents_same true false x y t a = cc
-contents_same false true x y t a = cc
-contents_same false false x y t a = ap Some a
-
--- positions are those of the same streams
-own_same : (s : Shape) (x y : Streams) → x.encoding ≡ y.encoding → x.stream 1 ≡ y.stream 1 → x.stream 2 ≡ y.stream 2 → value_runs s x ≡ value_runs s y
-own_same (list_of s o) x y e a b = λ i. number_runs (version_at (e i).kind) Unsigned (b i)
-own_same (map_of k v o) x y e a b = λ i. number_runs (version_at (e i).kind) Unsigned (b i)
-own_same (struct_of fs o) x y e a b = refl
-own_same (scalar kind.Boolean o) x y e a b = ap bit_runs a
-own_same (scalar kind.Byte o) x y e a b = ap byte_runs a
-own_same (scalar kind.Short o) x y e a b = λ i. number_runs (version_at (e i).kind) Signed (a i)
-own_same (scalar kind.Int o) x y e a b = λ i. number_runs (version_at (e i).kind) Signed (a i)
-own_same (scalar kind.Long o) x y e a b = λ i. number_runs (version_at (e i).kind) Signed (a i)
-own_same (scalar kind.Date o) x y e a b = λ i. number_runs (version_at (e i).kind) Signed (a i)
-own_same (scalar kind.Binary o) x y e a b = λ i. number_runs (version_at (e i).kind) Unsigned (b i)
-own_same (scalar kind.String o) x y e a b = texts_same (is_dictionary x.encoding.kind) (is_dictionary y.encoding.kind) x y (ap (λ (k : Encoding). is_dictionary k.kind) e) e a b
-
-octets_same : (s : Shape) (x y : Streams) → x.encoding ≡ y.encoding → x.stream 1 ≡ y.stream 1 → value_bytes s x ≡ value_bytes s y
-octets_same (list_of s o) x y e a = refl
-octets_same (map_of k v o) x y e a = refl
-octets_same (struct_of fs o) x y e a = refl
-octets_same (scalar kind.Boolean o) x y e a = refl
-octets_same (scalar kind.Byte o) x y e a = refl
-octets_same (scalar kind.Short o) x y e a = refl
-octets_same (scalar kind.Int o) x y e a = refl
-octets_same (scalar kind.Long o) x y e a = refl
-octets_same (scalar kind.Date o) x y e a = refl
-octets_same (scalar kind.Binary o) x y e a = ap Some a
-octets_same (scalar kind.String o) x y e a = contents_same (is_dictionary x.encoding.kind) (is_dictionary y.encoding.kind) x y (ap (λ (k : Encoding). is_dictionary k.kind) e) a
 
 places_same : (s : Shape) (x y : Streams) (before : List Cell) (positions : List ℕ) → x.encoding ≡ y.encoding → x.stream 0 ≡ y.stream 0 → x.stream 1 ≡ y.stream 1 → x.stream 2 ≡ y.stream 2
     → AreReadPositions s x before positions → AreReadPositions s y before positions
@@ -151,7 +109,7 @@ indexes_right rle stride s rows info bytes h some fit few c lt =
     let t = got h.indexes c many in
     let at : slice c 6 h.footer.streams bytes ≡ t.0 = (λ i. slice c 6 (h.listed i) (h.parts i)) ∙ index_met 0 h.indexes h.lines (h.streams ++ text) c c t.0 t.1 (from_zero c) in
     let cs = cells s c rows in
-    let bounds = bounds_of s c rows (starts stride (length rows)) in
+    let bounds = bounds_of s c rows (starts_of_groups stride (length rows)) in
     let right = right_in (shape_at s c) (columns_of h.footer bytes c) w cs bounds t.0
     (column_encoded rle s rows h.streams h.lines h.footer bytes c h.columns lt)
     (columns_found rle s rows h.streams text h.lines h.footer h.indexes bytes c h.columns h.listed h.parts lt)

@@ -12,13 +12,14 @@ use Rattle.orc_values.specs.Cells.{Cell}
 use Rattle.orc_values.specs.Columns.{cells}
 use Rattle.orc_values.specs.Fits.{RowsFit}
 use Rattle.orc_values.specs.Shapes.{Shape, width, shape_at}
-use Rattle.orc_column_reader.specs.Directory.{has_stream, slice, have_room, names_once, have_columns, is_directory}
+use Rattle.orc_directory.specs.Directory.{has_stream, slice, have_room, names_once, have_columns, is_directory}
 use Rattle.orc_column_reader.specs.Stripe.{encoding_at, columns_of, IsStripe}
 use Rattle.orc_stripe_writer.specs.WrittenColumn.{Written}
 use Rattle.orc_stripe_writer.specs.WrittenStripe.{AreFew, column_bytes, lines_from, HasColumns, indexed_columns, IsWrittenStripe}
 use Rattle.orc_stripe_writer.proofs.WrittenDirectory.{drop_front, take_front, from_zero, same_stream, other_kind, other_column, before, after, not_listed, lines_before, AreFound, lines_found, lines_once, lines_of, lines_room}
-use Rattle.orc_stripe_writer.proofs.WrittenReads.{column_at, there, encodings_at, written_at, column_read, encodings_right, both_true}
+use Rattle.orc_stripe_writer.proofs.WrittenReads.{column_at, there, encodings_at, written_at, column_read, encodings_right}
 use Rattle.orc_stripe_writer.specs.Indexes.{index_lines, index_bytes}
+use Rattle.std.specs.Cmp.Derive.{both_true}
 
 -- indexes are passed by the streams of data
 index_passed : (b : ℕ) (ts : List (List ℕ)) (ls : List StreamMsg) (rest : List ℕ) (c k : ℕ) → (6 == k) ≡ false → slice c k (index_lines b ts ++ ls) (index_bytes ts ++ rest) ≡ slice c k ls rest
@@ -109,7 +110,7 @@ directory_right rle stride s rows info bytes h =
     let once : names_once h.footer.streams ≡ true = ap names_once listed ∙ index_once 0 h.indexes (lines_from 0 ws) (no_index 0 ws) (lines_once 0 ws) in
     let columns : have_columns (width s) h.footer.streams ≡ true =
     ap (have_columns (width s)) listed ∙ index_columns 0 h.indexes (lines_from 0 ws) (width s) (omega (arith, few)) (lines_of 0 ws (width s) (let k = h.columns.counted in omega (arith, k))) in
-    both_true _ _ room (both_true _ _ once columns)
+    both_true room (both_true once columns)
 
 -- a written stripe is a stripe of its rows
 pub stripe_read : (rle : Rle) (stride : ℕ) (s : Shape) (rows : List Cell) (info : StripeInfo) (bytes : List ℕ) → IsWrittenStripe rle stride s rows info bytes → RowsFit s rows → AreFew s rows → IsStripe s info bytes rows

@@ -17,7 +17,8 @@ use Rattle.orc_stats.specs.declared.stat.Stat.{Stat}
 use Rattle.orc_stripe_writer.specs.declared.body.Body.{Body}
 use Rattle.orc_stripe_writer.specs.Dictionary.{is_worth}
 use Rattle.orc_stripe_writer.specs.WrittenColumn.{Written, direct, dictionary, HasTextsIf, WritesScalar, WritesValues, IsWrittenColumn}
-use Rattle.orc_stripe_writer.specs.WrittenStripe.{column_bytes, column_lines, lines_from, AreWrittenColumns, HasColumns, column_stat, HaveStats}
+use Rattle.orc_stripe_writer.specs.WrittenStripe.{column_bytes, column_lines, lines_from, AreWrittenColumns, HasColumns, HaveStats}
+use Rattle.orc_stats.specs.ColumnStatistics.{column_stat}
 use Rattle.orc_stripe_writer.specs.Adding.{AddsColumn}
 use Rattle.orc_stripe_writer.proofs.WrittenDirectory.{from_zero, lines-append, columns-append}
 

@@ -2,7 +2,7 @@
 use Rattle.std.proofs.Common.{◌≡◌, ℕ, zero, suc, ◌+◌, ◌-◌, ◌<◌, ◌≤◌, ◌==◌, ◌&&◌, ◌||◌, not, nat_lt, nat_le, true, false, List, [], ◌∷◌, ◌++◌, length, take, drop, Some, slice_get, refl, sym, ap, ◌∙◌, arith, append_assoc, append-nil, length-append, subst, Bool, lt-ltb, le-leb}
 use Rattle.std.specs.List.{flat_map}
 use Rattle.orc_wire.specs.declared.stripe_footer.StreamMsg.{StreamMsg}
-use Rattle.orc_column_reader.specs.Directory.{has_stream, slice, have_room, names_once, needs_column, have_columns}
+use Rattle.orc_directory.specs.Directory.{has_stream, slice, have_room, names_once, needs_column, have_columns}
 use Rattle.orc_stripe_writer.specs.WrittenColumn.{Written}
 use Rattle.orc_stripe_writer.specs.WrittenStripe.{line, column_bytes, column_lines, lines_from}
 

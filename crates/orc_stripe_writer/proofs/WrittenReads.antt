@@ -1,16 +1,16 @@
 -- What is written is read: a written column spells its cells, a written stripe is a stripe of its rows.
-use Rattle.std.proofs.Common.{◌≡◌, ℕ, ℤ, pos, negsuc, zero, suc, ◌+◌, ◌-◌, ◌<◌, ◌≤◌, ◌^◌, ◌&&◌, Bool, true, false, Some, None, List, [], ◌∷◌, ◌++◌, map, length, replicate, slice_get, refl, sym, ap, ◌∙◌, subst, arith, inl, inr}
+use Rattle.std.proofs.Common.{◌≡◌, ℕ, ℤ, pos, negsuc, zero, suc, ◌+◌, ◌-◌, ◌<◌, ◌≤◌, ◌^◌, Bool, true, false, Some, None, List, [], ◌∷◌, ◌++◌, map, length, replicate, slice_get, refl, sym, ap, ◌∙◌, subst, arith, inl, inr}
 use Rattle.std.specs.List.{list_all, AllZip}
 use Rattle.std.proofs.lemmas.Bool.Decides.{leb_tells}
 use Rattle.orc_rle.specs.declared.sign.Rle.{Rle}
 use Rattle.orc_rle.specs.declared.sign.Rle.TheVariants.{One, Two}
 use Rattle.orc_rle.specs.declared.sign.Sign.{Sign}
 use Rattle.orc_rle.specs.declared.sign.Sign.TheVariants.{Signed, Unsigned}
-use Rattle.orc_rle.specs.WrittenLaws.{written_one_is_stream}
-use Rattle.orc_rle.specs.TwoWrittenLaws.{written_two_is_stream}
-use Rattle.orc_rle.specs.ByteLaws.{bytes_written}
-use Rattle.orc_rle.specs.ByteLaws.{byte_run_some}
-use Rattle.orc_rle.specs.BitLaws.{held_len, bits_written}
+use Rattle.orc_rle.specs.laws.WrittenLaws.{written_one_is_stream}
+use Rattle.orc_rle.specs.laws.TwoWrittenLaws.{written_two_is_stream}
+use Rattle.orc_rle.proofs.ByteLaws.{bytes_written}
+use Rattle.orc_rle.proofs.ByteLaws.{byte_run_some}
+use Rattle.orc_rle.proofs.BitLaws.{held_len, bits_written}
 use Rattle.orc_rle.proofs.StreamLemmas.{no_values}
 use Rattle.orc_rle.specs.ByteRun.{IsByteRun}
 use Rattle.orc_rle.specs.BitStream.{IsBitText, IsBitStream}
@@ -30,11 +30,11 @@ use Rattle.orc_column_reader.specs.Spellings.{Standing, size, Sized}
 use Rattle.orc_column_reader.specs.Numbers.{AreNumbers}
 use Rattle.orc_column_reader.specs.Bytes.{AreBytes}
 use Rattle.orc_column_reader.specs.Columns.{IsBool, IsByte, IsText, IsEntry}
-use Rattle.orc_column_reader.specs.Directory.{takes_encoding, first_wrong}
+use Rattle.orc_directory.specs.Directory.{takes_encoding, first_wrong}
 use Rattle.orc_column_reader.specs.Stripe.{Streams, version_at, Marks, Is, SpellsTexts, SpellsScalar, SpellsValues, IsColumn, encoding_at, plain}
-use Rattle.orc_stripe_writer.specs.Dictionary.{entry_at, AreNamed, is_worth}
+use Rattle.orc_stripe_writer.specs.Dictionary.{dictionary_entry, AreNamed, is_worth}
 use Rattle.orc_stripe_writer.specs.WrittenStreams.{AreWrittenInts, AreMarksIf, AreWrittenMarks}
-use Rattle.orc_stripe_writer.specs.WrittenColumn.{Written, direct, dictionary, HasBits, HasBytes, HasNumbers, HasStrings, HasTextsIf, WritesScalar, WritesValues, IsWrittenColumn}
+use Rattle.orc_stripe_writer.specs.WrittenColumn.{Written, direct, dictionary, WritesBooleans, HasBytes, HasNumbers, HasStrings, HasTextsIf, WritesScalar, WritesValues, IsWrittenColumn}
 use Rattle.orc_stripe_writer.specs.WrittenStripe.{AreWrittenColumns, HasColumns}
 use Rattle.orc_stripe_writer.proofs.WrittenDirectory.{from_zero, AreFound}
 
@@ -111,7 +111,7 @@ groups_read rle x w groups r h = (
 standing_read : {X : Type 0} (stands : X → Cell → Type 0) (P Q : List X → Type 0) (vs : List Cell) → ((xs : List X) → P xs → Q xs) → Standing stands P vs → Standing stands Q vs
 standing_read stands P Q vs f h = (h.0, h.1, f h.0 h.2)
 
-word_at : (entries : List (List ℕ)) (n : ℤ) (t : List ℕ) (c : Cell) → entry_at entries n ≡ Some t → IsText t c → IsEntry entries n c
+word_at : (entries : List (List ℕ)) (n : ℤ) (t : List ℕ) (c : Cell) → dictionary_entry entries n ≡ Some t → IsText t c → IsEntry entries n c
 word_at entries (pos i) t c e h = (t, e, h)
 word_at entries (negsuc i) t c e h = cc
 
@@ -122,8 +122,8 @@ words_stand entries [] (t ∷ ts) vs n h = cc
 words_stand entries (p ∷ ps) [] vs n h = cc
 words_stand entries (p ∷ ps) (t ∷ ts) [] n h = absurd h
 words_stand entries (p ∷ ps) (t ∷ ts) (v ∷ vs) n h =
-    let first : entry_at entries p ≡ Some t = cc in
-    let later : map (entry_at entries) ps ≡ map Some ts = cc in
+    let first : dictionary_entry entries p ≡ Some t = cc in
+    let later : map (dictionary_entry entries) ps ≡ map Some ts = cc in
     (word_at entries p t v first h.0, words_stand entries ps ts vs later h.1)
 
 texts_if : (t : Bool) (rle : Rle) (x : Streams) (w : Written) (vs : List Cell) (entries texts : List (List ℕ)) → AreRead x w → AllZip IsText texts vs → HasTextsIf t rle w entries texts → SpellsTexts x (is_dictionary x.encoding.kind) vs
@@ -148,14 +148,14 @@ texts_if false rle x w vs entries texts r stand h =
 numbers_read : (rle : Rle) (x : Streams) (w : Written) (ns : List ℤ) → AreRead x w → HasNumbers rle w ns → AreNumbers (version_at x.encoding.kind) Signed (x.stream 1) ns
 numbers_read rle x w ns r h = numbers_at rle Signed ns (x.stream 1) w.content _ (is_direct rle x w _ r h.others refl) r.found.content h.content_is
 
-bits_read : (x : Streams) (w : Written) (bs : List Bool) → AreRead x w → HasBits w bs → IsBitStream (x.stream 1) bs
+bits_read : (x : Streams) (w : Written) (bs : List Bool) → AreRead x w → WritesBooleans w bs → IsBitStream (x.stream 1) bs
 bits_read x w bs r h = subst (λ bytes. IsBitStream bytes bs) (sym r.found.content) (bits_written bs w.content h.content_is)
 
 bytes_read : (x : Streams) (w : Written) (bs : List ℕ) → AreRead x w → HasBytes w bs → AreBytes (x.stream 1) bs
 bytes_read x w bs r h = subst (λ bytes. AreBytes bytes bs) (sym r.found.content) (bytes_written bs w.content h.content_is)
 
 scalar_read : (rle : Rle) (k : Scalar) (x : Streams) (w : Written) (vs : List Cell) → AreRead x w → WritesScalar rle w k vs → SpellsScalar k x vs
-scalar_read rle kind.Boolean x w vs r h = standing_read IsBool (HasBits w) (IsBitStream (x.stream 1)) vs (λ xs p. bits_read x w xs r p) h
+scalar_read rle kind.Boolean x w vs r h = standing_read IsBool (WritesBooleans w) (IsBitStream (x.stream 1)) vs (λ xs p. bits_read x w xs r p) h
 scalar_read rle kind.Byte x w vs r h = standing_read IsByte (HasBytes w) (AreBytes (x.stream 1)) vs (λ xs p. bytes_read x w xs r p) h
 scalar_read rle kind.Short x w vs r h = (h.0, h.1, numbers_read rle x w h.0 r h.2)
 scalar_read rle kind.Int x w vs r h = (h.0, h.1, numbers_read rle x w h.0 r h.2)
@@ -311,7 +311,3 @@ encodings_right rle s rows streams directory encodings h =
     let is : encoding_at encodings c ≡ (column_at h.columns c).encoding = ap (λ es. encoding_at es c) h.encoded ∙ encodings_at h.columns c below in
     ap (λ n. takes_encoding n (encoding_at encodings c).kind) (kinds_are s 0 c wide)
     ∙ taken (kind_number (shape_at s c)) _ _ is (column_taken rle (shape_at s c) (values (cells s c rows)) (column_at h.columns c) (written_at rle s rows 0 h.columns c c h.are below (from_zero c)).written))
-
-pub both_true : (a b : Bool) → a ≡ true → b ≡ true → (a && b) ≡ true
-both_true true b e f = f
-both_true false b e f = cc

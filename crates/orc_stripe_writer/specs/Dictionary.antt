@@ -17,13 +17,13 @@ pub record AreDistinct (texts entries : List (List ℕ)) : Type 0 where
   pub used : (text : List ℕ) → Contains entries text → Contains texts text
 
 -- the entry at a place
-abbrev pub entry_at : List (List ℕ) → ℤ → Option (List ℕ)
-entry_at entries (pos i) = slice_get entries i
-entry_at entries (negsuc i) = None
+abbrev pub dictionary_entry : List (List ℕ) → ℤ → Option (List ℕ)
+dictionary_entry entries (pos i) = slice_get entries i
+dictionary_entry entries (negsuc i) = None
 
 -- the entries at these places are the texts
 abbrev pub AreNamed : List (List ℕ) → List ℤ → List (List ℕ) → Type 0
-AreNamed entries places texts = map (entry_at entries) places ≡ map Some texts
+AreNamed entries places texts = map (dictionary_entry entries) places ≡ map Some texts
 
 -- A dictionary is written where there is a text, and there are at least twice as many texts as entries.
 abbrev pub is_worth : ℕ → ℕ → Bool

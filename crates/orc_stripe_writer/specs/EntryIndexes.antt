@@ -9,6 +9,6 @@ abbrev pub same_bytes : ByteString → ByteString → Bool
 same_bytes x y = pointwise nat_eq x.0.now y.0.now
 
 -- for each entry it is told where it stands, and what is told of a text is where it stands
-pub record ArePlaces (told : ByteString → Option ℕ) (entries : List (List ℕ)) : Type 0 where
+pub record AreEntryPlaces (told : ByteString → Option ℕ) (entries : List (List ℕ)) : Type 0 where
   pub known : (text : ByteString) → Contains entries text.0.now → IsSome (told text)
   pub named : (text : ByteString) → IfSome (told text) (λ place. slice_get entries place ≡ Some text.0.now)

@@ -13,7 +13,7 @@ use Rattle.orc_column_reader.specs.Stripe.{Streams, IsColumn, columns_of}
 use Rattle.orc_column_reader.specs.declared.starting.ColumnStreams.{ColumnStreams}
 use Rattle.orc_row_index.specs.RowIndex.{IsWrittenIndex}
 use Rattle.orc_stripe_writer.specs.declared.body.Body.{Body}
-use Rattle.orc_stripe_writer.specs.Groups.{bounds_of}
+use Rattle.orc_row_groups.specs.Groups.{bounds_of}
 use Rattle.orc_stripe_writer.specs.WrittenColumn.{Written}
 
 -- the streams of a written column, by their kind
@@ -42,7 +42,7 @@ abbrev pub index_bytes : List (List ℕ) → List ℕ
 index_bytes indexes = flat_map (λ t. t) indexes
 
 -- the indexes of the first n columns, of groups that begin with these rows
-pub record HasIndexes (s : Shape) (rows : List Cell) (firsts : List ℕ) (columns : List Written) (n : ℕ)
+pub record WritesIndexes (s : Shape) (rows : List Cell) (firsts : List ℕ) (columns : List Written) (n : ℕ)
     (indexes : List (List ℕ)) : Type 0 where
   pub counted : length indexes ≡ n
   pub each : (c : ℕ) (w : Written) (t : List ℕ) → slice_get columns c ≡ Some w → slice_get indexes c ≡ Some t
@@ -52,7 +52,7 @@ pub record HasIndexes (s : Shape) (rows : List Cell) (firsts : List ℕ) (column
 pub record HaveIndexes (s : Shape) (rows : List Cell) (firsts : List ℕ) (columns : List Written) (n : ℕ)
     (body : Body) : Type 0 where
   pub indexes : List (List ℕ)
-  pub are : HasIndexes s rows firsts columns n indexes
+  pub are : WritesIndexes s rows firsts columns n indexes
   pub bytes_are : body.bytes.items ≡ index_bytes indexes
   pub lines_are : body.directory.items ≡ index_lines 0 indexes
 

@@ -4,7 +4,6 @@ pub mod EntryIndexes
 pub mod CellValues
 pub mod WrittenStreams
 pub mod WrittenColumn
-pub mod Groups
 pub mod Firsts
 pub mod Indexes
 pub mod IndexSteps

@@ -5,11 +5,12 @@ use Rattle.orc_values.specs.Shapes.{Shape, Fields, width, widths}
 use Rattle.orc_values.specs.Cells.{Cell, parts, values}
 use Rattle.orc_values.specs.Columns.{cells}
 use Rattle.orc_values.specs.Fits.{RowsFit}
-use Rattle.orc_row_index.specs.Bounds.{AreBounds}
+use Rattle.orc_row_groups.specs.Bounds.{AreBounds}
 use Rattle.orc_stripe_writer.specs.Firsts.{firsts_of}
-use Rattle.orc_stripe_writer.specs.Groups.{AreGroupsFrom, AreFieldGroupsFrom}
+use Rattle.orc_row_groups.specs.Groups.{AreGroupsFrom, AreFieldGroupsFrom}
 use Rattle.orc_stripe_writer.specs.WrittenStripe.{AreFew}
-use Rattle.orc_stripe_writer.specs.Subtrees.{AreColumnsFrom, AreFieldsFrom, FieldsFit, FieldsAreFew}
+use Rattle.orc_stripe_writer.specs.Subtrees.{FieldsAreFew}
+use Rattle.orc_row_groups.specs.Subtrees.{AreColumnsFrom, AreFieldsFrom, FieldsFit}
 
 -- The columns of the rows from number c on are those of a type over column c's cells, which fit and of which no column has
 -- too many. The bounds say how many of them come before each group.

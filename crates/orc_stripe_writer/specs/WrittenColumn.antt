@@ -13,7 +13,7 @@ use Rattle.orc_values.specs.declared.kind.Scalar.{Scalar}
 use Rattle.orc_values.specs.declared.kind.Scalar.TheVariants as kind
 use Rattle.orc_values.specs.Shapes.{Shape, scalar, list_of, map_of, struct_of}
 use Rattle.orc_values.specs.Cells.{Cell, is_value, parts, pairs_in, values}
-use Rattle.orc_column_reader.specs.Spellings.{Standing, size, joined}
+use Rattle.orc_column_reader.specs.Spellings.{Standing, size, concatenated}
 use Rattle.orc_column_reader.specs.Columns.{IsBool, IsByte, IsInt, IsDate, IsText, IsBinary}
 use Rattle.orc_column_reader.specs.Stripe.{plain}
 use Rattle.orc_stripe_writer.specs.Dictionary.{AreDistinct, AreNamed, is_worth}
@@ -39,7 +39,7 @@ dictionary One entries = record { kind = DICTIONARY; dictionary_size = entries }
 dictionary Two entries = record { kind = DICTIONARY_V2; dictionary_size = entries }
 
 -- DATA has booleans; a column without streams of integers is DIRECT in either version
-pub record HasBits (w : Written) (bits : List Bool) : Type 0 where
+pub record WritesBooleans (w : Written) (bits : List Bool) : Type 0 where
   pub content_is : IsBitText bits w.content
   pub others : w ≡ record { encoding = plain; marks = w.marks; content = w.content; lengths = []; dictionary_data = [] }
 
@@ -56,7 +56,7 @@ pub record HasNumbers (rle : Rle) (w : Written) (numbers : List ℤ) : Type 0 wh
 
 -- DATA has the byte strings one after the other, LENGTH their lengths
 pub record HasStrings (rle : Rle) (w : Written) (strings : List (List ℕ)) : Type 0 where
-  pub content_is : w.content ≡ joined strings
+  pub content_is : w.content ≡ concatenated strings
   pub lengths_are : AreWrittenInts rle Unsigned (map size strings) w.lengths
   pub others : w ≡ record {
     encoding = direct rle;
@@ -72,7 +72,7 @@ pub record HasDictionary (rle : Rle) (w : Written) (entries texts : List (List �
   pub named : AreNamed entries places texts
   pub content_is : AreWrittenInts rle Unsigned places w.content
   pub lengths_are : AreWrittenInts rle Unsigned (map size entries) w.lengths
-  pub dictionary_data_is : w.dictionary_data ≡ joined entries
+  pub dictionary_data_is : w.dictionary_data ≡ concatenated entries
   pub encoded : w.encoding ≡ dictionary rle (length entries)
 
 -- strings in a dictionary, or with bytes of their own
@@ -98,7 +98,7 @@ HasNothing w = w ≡ record { encoding = plain; marks = w.marks; content = []; l
 
 -- the streams of a column of single values
 abbrev pub WritesScalar : Rle → Written → Scalar → List Cell → Type 0
-WritesScalar rle w kind.Boolean vs = Standing IsBool (HasBits w) vs
+WritesScalar rle w kind.Boolean vs = Standing IsBool (WritesBooleans w) vs
 WritesScalar rle w kind.Byte vs = Standing IsByte (HasBytes w) vs
 WritesScalar rle w kind.Short vs = Standing (IsInt kind.Short) (HasNumbers rle w) vs
 WritesScalar rle w kind.Int vs = Standing (IsInt kind.Int) (HasNumbers rle w) vs

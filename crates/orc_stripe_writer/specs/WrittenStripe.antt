@@ -1,6 +1,6 @@
 -- What the writer makes of rows: the indexes column by column, the streams column by column, then the footer
 -- (ORC specification, "Stripes"). The specification leaves the order of the streams to the writer.
-use Rattle.std.specs.Prelude.{◌≡◌, ℕ, zero, suc, ◌<◌, true, Some, List, [], ◌∷◌, ◌++◌, map, length, slice_get}
+use Rattle.std.specs.Prelude.{◌≡◌, ℕ, zero, suc, ◌<◌, Some, List, [], ◌∷◌, ◌++◌, map, length, slice_get}
 use Rattle.std.specs.List.{flat_map}
 use Rattle.orc_rle.specs.declared.sign.Rle.{Rle}
 use Rattle.orc_wire.specs.declared.stripe_footer.StreamMsg.{StreamMsg}
@@ -10,19 +10,16 @@ use Rattle.orc_wire.specs.declared.stripe_info.StripeInfo.{StripeInfo}
 use Rattle.orc_wire.specs.Messages.{stripe_footer}
 use Rattle.orc_wire.specs.CanonicalMessages.{stripe_footer_text}
 use Rattle.orc_wire.specs.Spells.{Spells}
-use Rattle.orc_wire.specs.StreamKinds.{PRESENT, DATA, LENGTH, DICTIONARY_DATA, ROW_INDEX}
+use Rattle.orc_wire.specs.StreamKinds.{PRESENT, DATA, LENGTH, DICTIONARY_DATA}
 use Rattle.orc_values.specs.Shapes.{Shape, width, shape_at}
 use Rattle.orc_values.specs.Cells.{Cell}
 use Rattle.orc_values.specs.Columns.{cells}
 use Rattle.orc_stats.specs.declared.stat.Stat.{Stat}
-use Rattle.orc_stats.specs.Kinds.{kind_of}
-use Rattle.orc_stats.specs.Statistics.{stat}
-use Rattle.orc_column_reader.specs.Directory.{has_stream, slice}
-use Rattle.orc_column_reader.specs.Stripe.{columns_of, cell_limit}
-use Rattle.orc_row_index.specs.RowIndex.{IsRightIndex}
-use Rattle.orc_stripe_writer.specs.Groups.{starts, bounds_of}
-use Rattle.orc_stripe_writer.specs.Indexes.{index_lines, index_bytes, HasIndexes}
+use Rattle.orc_values.specs.Limits.{cell_limit}
+use Rattle.orc_row_groups.specs.Groups.{starts_of_groups}
+use Rattle.orc_stripe_writer.specs.Indexes.{index_lines, index_bytes, WritesIndexes}
 use Rattle.orc_stripe_writer.specs.WrittenColumn.{Written, IsWrittenColumn}
+use Rattle.orc_stats.specs.ColumnStatistics.{column_stat}
 
 -- no column has more cells than a stripe may have
 abbrev pub AreFew : Shape → List Cell → Type 0
@@ -78,7 +75,7 @@ pub record IsWrittenStripe (rle : Rle) (stride : ℕ) (s : Shape) (rows : List C
   pub lines : List StreamMsg
   pub footer : StripeFooter
   pub columns : HasColumns rle s rows (width s) streams lines footer.columns
-  pub are : HasIndexes s rows (starts stride (length rows)) columns.columns (indexed_columns stride (width s)) indexes
+  pub are : WritesIndexes s rows (starts_of_groups stride (length rows)) columns.columns (indexed_columns stride (width s)) indexes
   pub listed : footer.streams ≡ index_lines 0 indexes ++ lines
   pub parts : bytes ≡ index_bytes indexes ++ (streams ++ stripe_footer_text.text footer)
   pub spelled : Spells stripe_footer 0 0 (stripe_footer_text.text footer) footer
@@ -90,17 +87,6 @@ pub record IsWrittenStripe (rle : Rle) (stride : ℕ) (s : Shape) (rows : List C
         footer_length = length (stripe_footer_text.text footer);
         number_of_rows = length rows;
       }
-
--- the directory lists an index of column c, and it is right for a reader of the stripe
-abbrev pub HasRightIndex : ℕ → Shape → List Cell → StripeFooter → List ℕ → ℕ → Type 0
-HasRightIndex stride s rows footer bytes c =
-    (has_stream c ROW_INDEX footer.streams ≡ true)
-    × IsRightIndex (shape_at s c) (columns_of footer bytes c) (cells s c rows)
-    (bounds_of s c rows (starts stride (length rows))) (slice c ROW_INDEX footer.streams bytes)
-
--- the statistic of a column's cells
-abbrev pub column_stat : Shape → List Cell → ℕ → Stat
-column_stat s rows c = stat (kind_of (shape_at s c)) (cells s c rows)
 
 -- the statistics of the first n columns, in order
 pub record HaveStats (s : Shape) (rows : List Cell) (n : ℕ) (stats : List Stat) : Type 0 where

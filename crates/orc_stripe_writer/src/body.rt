@@ -4,7 +4,7 @@ ghost use Rattle.orc_rle.specs.Values.{AllInRange};
 ghost use Rattle.orc_rle.specs.Cut.{IsWritten};
 ghost use Rattle.orc_rle.specs.ByteRun.{byte_rule};
 ghost use Rattle.orc_rle.specs.BitStream.{IsBitText};
-ghost use Rattle.orc_column_reader.specs.Spellings.{joined};
+ghost use Rattle.orc_column_reader.specs.Spellings.{concatenated};
 ghost use Rattle.orc_stripe_writer.specs.Dictionary.{byte_strings};
 ghost use Rattle.orc_stripe_writer.specs.WrittenStreams.{AreWrittenInts};
 ghost use Rattle.orc_stripe_writer.specs.WrittenStripe.{line};
@@ -142,7 +142,7 @@ impl Body {
         strings: &[ByteString<'_>],
     ) -> Result<(), AllocError>
         ensures { OnOk result
-            (AddsStream (λ text. text ≡ joined (byte_strings strings.now)) column kind self.old self.new) }
+            (AddsStream (λ text. text ≡ concatenated (byte_strings strings.now)) column kind self.old self.new) }
     {
         let start = self.bytes.len();
         append_byte_strings(strings, &mut self.bytes)?;

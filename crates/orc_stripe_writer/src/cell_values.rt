@@ -5,9 +5,9 @@ ghost use Rattle.orc_rle.specs.Values.{InRange, AllInRange};
 ghost use Rattle.orc_rle.specs.declared.sign.Sign.TheVariants.{Signed, Unsigned};
 ghost use Rattle.orc_values.specs.Cells.{is_value};
 ghost use Rattle.orc_values.specs.Own.{own_cell};
-ghost use Rattle.orc_column_reader.specs.Spellings.{size, joined};
+ghost use Rattle.orc_column_reader.specs.Spellings.{size, concatenated};
 ghost use Rattle.orc_stats.specs.Statistics as stats;
-ghost use Rattle.orc_row_index.specs.OwnCells.{own_cells};
+ghost use Rattle.orc_row_groups.specs.OwnCells.{own_cells};
 ghost use Rattle.orc_stripe_writer.specs.CellValues as spec;
 ghost use Rattle.orc_stripe_writer.specs.CellValues.{int_in, bytes_in, size_in, bools_in, ints_in, number_bytes_in, all_bytes_in, sizes_in};
 ghost use Rattle.orc_stripe_writer.specs.Dictionary.{byte_strings};
@@ -167,7 +167,7 @@ pub(crate) fn append_byte_strings(
     strings: &[ByteString<'_>],
     out: &mut Vec<u8>,
 ) -> Result<(), AllocError>
-    ensures { OnOk result (out.new.items ≡ out.old.items ++ joined (byte_strings strings.now)) }
+    ensures { OnOk result (out.new.items ≡ out.old.items ++ concatenated (byte_strings strings.now)) }
 {
     for string in strings {
         out.extend_from_slice(string.0)?;

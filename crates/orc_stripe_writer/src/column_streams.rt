@@ -1,6 +1,6 @@
 //! A column's streams, as they were just written.
 ghost use Rattle.std.specs.Prelude.{◌≡◌, length, true};
-ghost use Rattle.orc_column_reader.specs.Directory.{is_of, have_room, slice};
+ghost use Rattle.orc_directory.specs.Directory.{is_stream_of, have_room, slice};
 ghost use Rattle.orc_column_reader.specs.Starting.{AreStreams};
 ghost use Rattle.orc_stripe_writer.specs.Indexes.{streams_written};
 ghost use Rattle.orc_stripe_writer.specs.WrittenColumn.{Written};
@@ -11,7 +11,7 @@ use orc_wire::{DATA, DICTIONARY_DATA, Encoding, LENGTH, PRESENT, StreamMsg};
 
 /// Whether the line is that of a column's stream of a kind.
 fn names(line: &StreamMsg, column: u32, kind: u32) -> bool
-    ensures { result ≡ is_of column kind line.now }
+    ensures { result ≡ is_stream_of column kind line.now }
 {
     line.column == column && line.kind == kind
 }

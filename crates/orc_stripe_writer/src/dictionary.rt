@@ -6,7 +6,7 @@ ghost use Rattle.orc_rle.specs.declared.sign.Sign.TheVariants.{Unsigned};
 ghost use Rattle.orc_rle.specs.Values.{AllInRange};
 ghost use Rattle.orc_stripe_writer.specs.Dictionary as spec;
 ghost use Rattle.orc_stripe_writer.specs.DictionaryChoice.{AreEachOnce, AreWorthy, HasTooMany, HaveManyEntries};
-ghost use Rattle.orc_stripe_writer.specs.EntryIndexes.{same_bytes, ArePlaces};
+ghost use Rattle.orc_stripe_writer.specs.EntryIndexes.{same_bytes, AreEntryPlaces};
 ghost use Rattle.orc_stripe_writer.specs.Dictionary.{byte_strings, AreDistinct, AreNamed};
 
 use crate::byte_string::ByteString;
@@ -63,7 +63,7 @@ fn entry_places<'r>(
     alloc: Global,
     entries: &Vec<ByteString<'r>>,
 ) -> Result<HashMap<ByteString<'r>, usize>, AllocError>
-    ensures { IfOk result (λ places. ArePlaces (get same_bytes places) (byte_strings entries.now.items)) }
+    ensures { IfOk result (λ places. AreEntryPlaces (get same_bytes places) (byte_strings entries.now.items)) }
 {
     let mut places = HashMap::with_capacity(alloc, entries.len())?;
     for place in 0..entries.len() {

@@ -6,36 +6,21 @@ ghost use Rattle.orc_stats.specs.Kinds.{kind_of};
 ghost use Rattle.orc_stats.specs.Statistics.{stat};
 ghost use Rattle.orc_column_reader.specs.Starting.{AreStreams};
 ghost use Rattle.orc_column_reader.specs.Stripe.{Streams};
-ghost use Rattle.orc_row_index.specs.Bounds.{AreBounds};
-ghost use Rattle.orc_row_index.specs.OwnCells.{AreOwn, AreSpelledOwn};
+ghost use Rattle.orc_row_groups.specs.Bounds.{AreBounds};
+ghost use Rattle.orc_row_index.specs.OwnCells.{AreSpelledOwn};
+ghost use Rattle.orc_row_groups.specs.OwnCells.{AreOwn};
 ghost use Rattle.orc_row_index.specs.RowIndex.{IsWrittenIndex};
 ghost use Rattle.orc_stripe_writer.specs.Firsts.{firsts_of};
-ghost use Rattle.orc_stripe_writer.specs.Groups.{starts};
 ghost use Rattle.orc_stripe_writer.specs.Indexes.{AddsIndex};
 
 use crate::body::Body;
 use orc_column_reader::ColumnStreams;
+use orc_row_groups::group_starts;
 use orc_row_index::put_index;
 use orc_stats::Stat;
 use orc_values::{Own, Tree};
 use orc_wire::{ROW_INDEX, StreamMsg};
 use std::alloc::{AllocError, Global};
-
-/// How many rows come before each group: a group begins each `stride` rows (ORC specification, "Row Group Index").
-///
-/// Refusal: want of memory.
-pub fn group_starts(alloc: Global, stride: usize, rows: usize) -> Result<Vec<usize>, AllocError>
-    requires { 0 < stride }
-    // Where the stride is above 0, the answer is how many rows come before each group: each
-    // multiple of the stride below the number of rows, in order, unless memory is refused.
-    ensures { IfOk result (λ found. found.items ≡ starts stride rows) }
-{
-    let mut found = Vec::new(alloc);
-    for group in 0..rows.div_ceil(stride) {
-        found.push(group * stride)?;
-    }
-    Ok(found)
-}
 
 /// How many rows come before each group that the stripe's indexes tell of; without a stride there is none.
 pub(crate) fn first_rows(

@@ -10,13 +10,11 @@ mod columns;
 mod dictionary;
 mod indexes;
 mod limits;
-mod options;
 mod put_column;
 mod writer;
 mod written;
 
-pub use indexes::group_starts;
 pub use limits::are_few;
-pub use options::Options;
+pub use orc_row_batch::Options;
 pub use writer::{StripeOut, write_batch, write_stripe};
 pub use written::writing_laws;

@@ -6,12 +6,12 @@ ghost use Rattle.orc_values.specs.Lent.{lent_cells};
 ghost use Rattle.orc_values.specs.Views.{views, shape, fields as fields_view};
 ghost use Rattle.orc_stripe_writer.specs.Subtrees.{PairsAreFew, FieldsAreFew};
 ghost use Rattle.orc_stripe_writer.specs.WrittenStripe.{AreFew};
-ghost use Rattle.orc_column_reader.specs.declared.fault.StripeFault.TheVariants.{OutOfMemory};
+ghost use Rattle.orc_directory.specs.declared.fault.StripeFault.TheVariants.{OutOfMemory};
 
 use crate::below::{elements_of, fields_of, keys_of, lent_rows, map_values_of};
-use orc_column_reader::{CELL_LIMIT, StripeFault};
+use orc_directory::StripeFault;
 use orc_types::Schema;
-use orc_values::{Field, Lent, Row, Tree};
+use orc_values::{CELL_LIMIT, Field, Lent, Row, Tree};
 use std::alloc::{AllocError, Global};
 
 /// Whether neither the column nor one below it has more than 2,147,483,647 cells.

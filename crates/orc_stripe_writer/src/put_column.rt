@@ -6,12 +6,12 @@ ghost use Rattle.orc_values.specs.Cells.{Cell, is_value, values};
 ghost use Rattle.orc_values.specs.Shapes.{scalar};
 ghost use Rattle.orc_values.specs.Views.{shape};
 ghost use Rattle.orc_values.specs.Fits.{RowsFit};
-ghost use Rattle.orc_row_index.specs.OwnCells.{own_cells, AreOwn};
+ghost use Rattle.orc_row_groups.specs.OwnCells.{own_cells, AreOwn};
 ghost use Rattle.orc_stripe_writer.specs.CellValues.{bools_in, number_bytes_in, ints_in, sizes_in};
 ghost use Rattle.orc_stripe_writer.specs.Dictionary.{byte_strings, AreNamed};
 ghost use Rattle.orc_stripe_writer.specs.WrittenStreams.{AreWrittenMarks};
 ghost use Rattle.orc_stripe_writer.specs.WrittenColumn as spec;
-ghost use Rattle.orc_stripe_writer.specs.WrittenColumn.{HasBits, HasBytes, HasNumbers, HasStrings, HasDictionary, HasTexts, HasSizes, WritesValues};
+ghost use Rattle.orc_stripe_writer.specs.WrittenColumn.{WritesBooleans, HasBytes, HasNumbers, HasStrings, HasDictionary, HasTexts, HasSizes, WritesValues};
 ghost use Rattle.orc_stripe_writer.specs.Adding.{AddsStream, AddsValues, AddsColumn};
 ghost use Rattle.orc_wire.specs.StreamKinds.{PRESENT};
 ghost use Rattle.orc_column_reader.specs.Stripe.{plain as plain_encoding};
@@ -96,7 +96,7 @@ fn put_bools(
     owns: &[Own<'_>],
     body: &mut Body,
 ) -> Result<Encoding, AllocError>
-    ensures { IfOk result (AddsValues (λ w. HasBits w (bools_in (own_cells owns.now))) column body.old body.new) }
+    ensures { IfOk result (AddsValues (λ w. WritesBooleans w (bools_in (own_cells owns.now))) column body.old body.new) }
 {
     let bools = bools_of(alloc, owns)?;
     body.put_bits(column, DATA, &bools)?;

@@ -7,18 +7,17 @@ ghost use Rattle.orc_values.specs.Fits.{RowsFit};
 ghost use Rattle.orc_values.specs.Views.{views};
 ghost use Rattle.orc_row_batch.specs.Batch.{Holds, kept_rows};
 ghost use Rattle.orc_column_reader.specs.Stripe.{IsStripe};
-ghost use Rattle.orc_stripe_writer.specs.Groups.{starts};
+ghost use Rattle.orc_row_groups.specs.Groups.{starts_of_groups};
 ghost use Rattle.orc_stripe_writer.specs.Indexes.{HaveIndexes};
 ghost use Rattle.orc_stripe_writer.specs.WrittenStripe.{AreFew, indexed_columns, HasColumns, HaveStats, IsWrittenStripe};
 ghost use Rattle.orc_stripe_writer.specs.Subtrees.{HasWritten};
-ghost use Rattle.orc_column_reader.specs.declared.fault.StripeFault.TheVariants.{OutOfMemory};
+ghost use Rattle.orc_directory.specs.declared.fault.StripeFault.TheVariants.{OutOfMemory};
 
 use crate::body::Body;
 use crate::columns::{Columns, Source, put_columns};
 use crate::indexes::first_rows;
-use crate::options::Options;
-use orc_column_reader::StripeFault;
-use orc_row_batch::RowBatch;
+use orc_directory::StripeFault;
+use orc_row_batch::{Options, RowBatch};
 use orc_stats::Stat;
 use orc_types::Schema;
 use orc_values::Row;
@@ -76,7 +75,7 @@ fn assemble(
     ensures written { IfOk result (λ out. (rle : Rle) (stride : ℕ) (s : Shape) (rows : List Cell)
         → length rows ≡ number_of_rows
         → (h : HasColumns rle s rows (width s) streams.items footer.streams footer.columns)
-        → HaveIndexes s rows (starts stride (length rows)) h.columns (indexed_columns stride (width s)) indexes
+        → HaveIndexes s rows (starts_of_groups stride (length rows)) h.columns (indexed_columns stride (width s)) indexes
         → IsWrittenStripe rle stride s rows out.info out.bytes.items) }
     ensures stats { IfOk result (λ out. out.stats.items ≡ stats.items) }
 {

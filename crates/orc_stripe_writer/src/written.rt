@@ -6,7 +6,8 @@ ghost use Rattle.orc_values.specs.Shapes.{Shape, width};
 ghost use Rattle.orc_values.specs.Cells.{Cell};
 ghost use Rattle.orc_values.specs.Fits.{RowsFit};
 ghost use Rattle.orc_column_reader.specs.Stripe.{IsStripe};
-ghost use Rattle.orc_stripe_writer.specs.WrittenStripe.{AreFew, HasRightIndex, IsWrittenStripe};
+ghost use Rattle.orc_stripe_writer.specs.WrittenStripe.{AreFew, IsWrittenStripe};
+ghost use Rattle.orc_row_index.specs.RowIndex.{HasRightIndex};
 
 /// Laws of stripes as they are written: what is written of rows that fit and are few is a stripe of
 /// those rows, so it is read; of rows at most one stripe is written; and where there is a stride, each

@@ -5,7 +5,7 @@ use Rattle.std.specs.Option.{IfSome}
 use Rattle.std.specs.Result.{MatchResult}
 use Rattle.orc_wire.specs.declared.post_script.PostScript.{PostScript}
 use Rattle.orc_tail.specs.Layout.{postscript_length, postscript_place}
-use Rattle.orc_tail.specs.Tails.{end_tests, IsTail, OpenFault, ReadFault}
+use Rattle.orc_tail.specs.Tails.{end_tests, IsTail, TailOpenFault, ReadFault}
 use Rattle.orc_tail.specs.Caps.{no_cap, tail_length, IsCappedTail, CappedFault}
 use Rattle.orc_tail.specs.declared.tail.Tail.{Tail}
 use Rattle.orc_tail.specs.declared.fault.FileFault.{FileFault}
@@ -24,16 +24,16 @@ is_tail cap bytes tail h = h.2.1
 pub is_capped : (bytes : List ℕ) (tail : Tail) → length bytes ≤ no_cap → IsTail bytes tail → IsCappedTail no_cap bytes tail
 is_capped bytes tail few h = (h.0, h.1, (tail_short bytes h.0 few h.1, h))
 
-pub is_open : (bytes : List ℕ) (fault : FileFault) → length bytes ≤ no_cap → CappedFault no_cap bytes fault → OpenFault bytes fault
+pub is_open : (bytes : List ℕ) (fault : FileFault) → length bytes ≤ no_cap → CappedFault no_cap bytes fault → TailOpenFault bytes fault
 is_open bytes fault few (inl ends) = inl ends
 is_open bytes fault few (inr h) = elim h.2 [ inl above ↦ absurd (above.0 (tail_short bytes h.0 few h.1)) | inr later ↦ later.1 ]
 
-pub is_open_capped : (bytes : List ℕ) (fault : FileFault) → length bytes ≤ no_cap → OpenFault bytes fault → CappedFault no_cap bytes fault
+pub is_open_capped : (bytes : List ℕ) (fault : FileFault) → length bytes ≤ no_cap → TailOpenFault bytes fault → CappedFault no_cap bytes fault
 is_open_capped bytes fault few (inl ends) = inl ends
 is_open_capped bytes fault few (inr h) = inr (h.0, h.1, inr (tail_short bytes h.0 few h.1, inr h))
 
 -- a cap adds one refusal
-pub one_more_fault : (cap : ℕ) (bytes : List ℕ) (fault : FileFault) → CappedFault cap bytes fault → OpenFault bytes fault ⊎ (fault ≡ Limit)
+pub one_more_fault : (cap : ℕ) (bytes : List ℕ) (fault : FileFault) → CappedFault cap bytes fault → TailOpenFault bytes fault ⊎ (fault ≡ Limit)
 one_more_fault cap bytes fault (inl ends) = inl (inl ends)
 one_more_fault cap bytes fault (inr h) = elim h.2 [ inl above ↦ inr above.1 | inr later ↦ inl later.1 ]
 
@@ -54,7 +54,7 @@ above_cap None cap postscript place n e above = tt
 above_cap (Some bytes) cap postscript place n e above = inr (postscript, e.0.0, inl ((λ within. omega (arith, within, above, e.1)), refl))
 
 pub fails_within : (told : Option (List ℕ)) (cap : ℕ) (postscript : PostScript) (place n : ℕ) (fault : FileFault) → IfSome told (λ b. HasEnds postscript place n b)
-    → n + postscript.footer_length + postscript.metadata_length ≤ cap → IfSome told (λ b. OpenFault b fault) → IfSome told (λ b. CappedFault cap b fault)
+    → n + postscript.footer_length + postscript.metadata_length ≤ cap → IfSome told (λ b. TailOpenFault b fault) → IfSome told (λ b. CappedFault cap b fault)
 fails_within None cap postscript place n fault e within h = tt
 fails_within (Some bytes) cap postscript place n fault e within h = inr (postscript, e.0.0, inr (omega (arith, within, e.1), h))
 
@@ -80,7 +80,7 @@ pub told_tail : (told : Option (List ℕ)) (cap : ℕ) (tail : Tail) → IfSome 
 told_tail None cap tail h = tt
 told_tail (Some bytes) cap tail h = is_tail cap bytes tail h
 
-pub told_fault : (told : Option (List ℕ)) (fault : FileFault) → IfSome told (λ b. length b ≤ no_cap) → ReadFault told fault (λ b. CappedFault no_cap b fault) → ReadFault told fault (λ b. OpenFault b fault)
+pub told_fault : (told : Option (List ℕ)) (fault : FileFault) → IfSome told (λ b. length b ≤ no_cap) → ReadFault told fault (λ b. CappedFault no_cap b fault) → ReadFault told fault (λ b. TailOpenFault b fault)
 told_fault told fault few (inl memory) = inl memory
 told_fault told fault few (inr (inl source)) = inr (inl source)
 told_fault None fault few (inr (inr h)) = inr (inr tt)

@@ -5,8 +5,8 @@ use Rattle.std.proofs.lemmas.List.{append-nil}
 use Rattle.std.specs.List.{AllByRecursion}
 use Rattle.orc_wire.specs.declared.fault.WireFault.{WireFault}
 use Rattle.orc_wire.specs.Fields.{Item, IsField, IsFields, NoField}
-use Rattle.orc_wire.specs.FieldLaws.{one_field, none_field}
-use Rattle.orc_wire.specs.SpellsLaws.{Within, after_front, text_some}
+use Rattle.orc_wire.specs.laws.FieldLaws.{one_field, none_field}
+use Rattle.orc_wire.specs.laws.SpellsLaws.{IsFrontOfFields, after_front, text_some}
 use Rattle.orc_wire.specs.Canonical.{IsBetween}
 use Rattle.orc_wire.specs.CanonicalKinds.{AreKept}
 
@@ -40,7 +40,7 @@ scanned_all kept rest place s e = record {
   from = s.above;
 }
 
-within_above : (item : Item) (fs gs : List Item) → Within (item ∷ fs) gs → AllByRecursion (IsBetween 11 (2 ^ 29)) gs → 11 ≤ item.number
+within_above : (item : Item) (fs gs : List Item) → IsFrontOfFields (item ∷ fs) gs → AllByRecursion (IsBetween 11 (2 ^ 29)) gs → 11 ≤ item.number
 within_above item fs [] e all = let h : item ∷ fs ≡ [] = e in cc
 within_above item fs (g ∷ gs) (inl e) all = let h : item ∷ fs ≡ g ∷ gs = e in let k : item ≡ g = cc in subst (λ (t : Item). 11 ≤ t.number) (sym k) (let b = all.0 in b.least)
 within_above item fs (g ∷ gs) (inr w) all = within_above item fs gs w all.1

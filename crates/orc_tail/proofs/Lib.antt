@@ -13,3 +13,4 @@ pub mod CapLemmas
 pub mod Opened
 pub mod ReadBits
 pub mod TextLengths
+pub mod OfColumns

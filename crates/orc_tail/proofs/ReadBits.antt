@@ -26,7 +26,7 @@ use Rattle.orc_stats.specs.declared.kind.StatKind.{StatKind}
 use Rattle.orc_stats.specs.declared.kind.StatKind.TheVariants as kind
 use Rattle.orc_stats.specs.declared.stat.Stat.{Stat}
 use Rattle.orc_stats.specs.declared.stat.Body.{Body}
-use Rattle.orc_stats.specs.Messages.{unknown, body_read, ints_body, dates_body, texts_body, bins_body, bools_body, children_body, first_of, stat_read, message_of}
+use Rattle.orc_stats.specs.Messages.{unknown, body_read, ints_body, dates_body, texts_body, bins_body, bools_body, children_body, first_bucket, stat_read, message_of}
 use Rattle.orc_stats.specs.Messages.{bins_record, bools_record, int_record, text_record, bucket_record, date_record, bin_record, collection_record}
 use Rattle.orc_tail.specs.Layout.{footer_bytes, metadata_bytes}
 use Rattle.orc_tail.specs.Statistics.{kind_at, stats_read, stripe_stats_read}
@@ -78,7 +78,7 @@ bins_bits : (o : Option BinaryStatistics) → IfSome o binary_stats_text.bounded
 bins_bits None h = (tt, (tt, (tt, (tt, (tt, tt)))))
 bins_bits (Some r) h = (tt, (tt, (tt, (tt, (sum_bits r.sum h, tt)))))
 
-first_bits : (counts : List ℕ) → bucket_stats_text.bounded (record { count = counts }) → IfSome (bools_record (first_of counts)) bucket_stats_text.bounded
+first_bits : (counts : List ℕ) → bucket_stats_text.bounded (record { count = counts }) → IfSome (bools_record (first_bucket counts)) bucket_stats_text.bounded
 first_bits [] h = tt
 first_bits (n ∷ ns) h = (h.0, tt)
 
@@ -99,7 +99,7 @@ body_bits kind.Dates m h = dates_bits m.date_statistics h.1.1.1.1.0
 body_bits kind.Bins m h = bins_bits m.binary_statistics h.1.1.1.1.1.0
 body_bits kind.Children m h = children_bits m.collection_statistics h.1.1.1.1.1.1.1
 
-either_bits : (b : Bool) (x y : Body) → BodyBits x → BodyBits y → BodyBits (if b then x else y)
+pub either_bits : (b : Bool) (x y : Body) → BodyBits x → BodyBits y → BodyBits (if b then x else y)
 either_bits true x y p q = p
 either_bits false x y p q = q
 

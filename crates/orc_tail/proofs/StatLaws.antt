@@ -1,19 +1,20 @@
 -- Statistics that are put into messages and read back.
-use Rattle.std.specs.Prelude.{◌≡◌, ℕ, ◌+◌, nat_le, Bool, true, ◌&&◌, ℤ, List, [], ◌∷◌, length, map, Option, Some, None, refl}
-use Rattle.std.proofs.Common.{◌∙◌, ap, inl, inr, arith}
+use Rattle.std.specs.Prelude.{◌≡◌, ℕ, ◌+◌, nat_le, Bool, true, ◌&&◌, List, [], ◌∷◌, length, map, Option, Some, None, refl}
+use Rattle.std.proofs.Common.{◌∙◌, ap, arith}
 use Rattle.std.specs.List.{AllByRecursion, list_all}
 use Rattle.std.specs.Option.{IfSome}
 use Rattle.std.proofs.lemmas.List.{length-map}
 use Rattle.orc_wire.specs.CanonicalKinds.{le_yes}
-use Rattle.orc_wire.specs.CanonicalMessages.{column_stats_text, integer_stats_text, string_stats_text, bucket_stats_text, date_stats_text, binary_stats_text, collection_stats_text}
-use Rattle.orc_wire.proofs.WholeLaws.{column_whole, integer_shown, string_shown, bucket_shown, date_shown, binary_shown, collection_shown}
+use Rattle.orc_wire.specs.CanonicalMessages.{column_stats_text, bucket_stats_text}
+use Rattle.orc_wire.proofs.WholeLaws.{column_whole, bucket_shown}
 use Rattle.orc_values.specs.Shapes.{Shape, width}
 use Rattle.orc_stats.specs.declared.stat.Stat.{Stat}
 use Rattle.orc_stats.specs.declared.stat.Body.{Body}
 use Rattle.orc_stats.specs.declared.stat.Body.TheVariants as body
-use Rattle.orc_stats.specs.Messages.{message_of, in_limits, ints_record, dates_record, texts_record, bins_record, bools_record, children_record, int_record, date_record, text_record, bucket_record, bin_record, collection_record}
+use Rattle.orc_stats.specs.Messages.{message_of, in_limits, bools_record, bucket_record}
 use Rattle.orc_stats.proofs.ReadBack.{reads_back}
 use Rattle.orc_tail.specs.Statistics.{kind_at, stats_read, stripe_stats_read, have_few, AreOfColumns, AreStats, stripe_message}
+use Rattle.orc_stats.proofs.Shown.{int_part, text_part, date_part, bin_part, collection_part}
 
 pub stats_back : (s : Shape) (column : ℕ) (xs : List Stat) → AreOfColumns s column xs → stats_read s column (map message_of xs) ≡ xs
 stats_back s column [] h = refl
@@ -55,60 +56,13 @@ stripes_few s (xs ∷ xss) h =
 
 -- ---- a record stands where a part is known, and then its text isn't empty
 
-ints_shown : (l g s : Option ℤ) → IfSome (ints_record l g s) (λ r. integer_stats_text.text r ≡ [] → ⊥)
-ints_shown (Some l) g s = integer_shown (record { minimum = Some l; maximum = g; sum = s }) (inl refl)
-ints_shown None (Some g) s = integer_shown (record { minimum = None; maximum = Some g; sum = s }) (inr (inl refl))
-ints_shown None None (Some s) = integer_shown (record { minimum = None; maximum = None; sum = Some s }) (inr (inr refl))
-ints_shown None None None = tt
-
-texts_shown : (l g : Option (List ℕ)) (s : Option ℤ) → IfSome (texts_record l g s) (λ r. string_stats_text.text r ≡ [] → ⊥)
-texts_shown (Some l) g s = string_shown (record { minimum = Some l; maximum = g; sum = s }) (inl refl)
-texts_shown None (Some g) s = string_shown (record { minimum = None; maximum = Some g; sum = s }) (inr (inl refl))
-texts_shown None None (Some s) = string_shown (record { minimum = None; maximum = None; sum = Some s }) (inr (inr refl))
-texts_shown None None None = tt
-
-dates_shown : (l g : Option ℤ) → IfSome (dates_record l g) (λ r. date_stats_text.text r ≡ [] → ⊥)
-dates_shown (Some l) g = date_shown (record { minimum = Some l; maximum = g }) (inl refl)
-dates_shown None (Some g) = date_shown (record { minimum = None; maximum = Some g }) (inr refl)
-dates_shown None None = tt
-
-bins_shown : (s : Option ℤ) → IfSome (bins_record s) (λ r. binary_stats_text.text r ≡ [] → ⊥)
-bins_shown (Some s) = binary_shown (record { sum = Some s }) refl
-bins_shown None = tt
-
 bools_shown : (t : Option ℕ) → IfSome (bools_record t) bucket_stats_text.bounded → IfSome (bools_record t) (λ r. bucket_stats_text.text r ≡ [] → ⊥)
 bools_shown (Some n) can = bucket_shown (record { count = n ∷ [] }) can (λ e. let f : n ∷ [] ≡ [] = e in cc)
 bools_shown None can = tt
 
-int_part : (b : Body) → IfSome (int_record b) (λ r. integer_stats_text.text r ≡ [] → ⊥)
-int_part (body.Ints l g s) = ints_shown l g s
-int_part _ = tt
-
-text_part : (b : Body) → IfSome (text_record b) (λ r. string_stats_text.text r ≡ [] → ⊥)
-text_part (body.Texts l g s) = texts_shown l g s
-text_part _ = tt
-
 bucket_part : (b : Body) → IfSome (bucket_record b) bucket_stats_text.bounded → IfSome (bucket_record b) (λ r. bucket_stats_text.text r ≡ [] → ⊥)
 bucket_part (body.Bools t) can = bools_shown t can
 bucket_part _ can = tt
-
-date_part : (b : Body) → IfSome (date_record b) (λ r. date_stats_text.text r ≡ [] → ⊥)
-date_part (body.Dates l g) = dates_shown l g
-date_part _ = tt
-
-bin_part : (b : Body) → IfSome (bin_record b) (λ r. binary_stats_text.text r ≡ [] → ⊥)
-bin_part (body.Bins s) = bins_shown s
-bin_part _ = tt
-
-children_shown : (l g t : Option ℕ) → IfSome (children_record l g t) (λ r. collection_stats_text.text r ≡ [] → ⊥)
-children_shown (Some l) g t = collection_shown (record { min_children = Some l; max_children = g; total_children = t }) (inl refl)
-children_shown None (Some g) t = collection_shown (record { min_children = None; max_children = Some g; total_children = t }) (inr (inl refl))
-children_shown None None (Some t) = collection_shown (record { min_children = None; max_children = None; total_children = Some t }) (inr (inr refl))
-children_shown None None None = tt
-
-collection_part : (b : Body) → IfSome (collection_record b) (λ r. collection_stats_text.text r ≡ [] → ⊥)
-collection_part (body.Children l g t) = children_shown l g t
-collection_part _ = tt
 
 stat_whole : (x : Stat) → column_stats_text.bounded (message_of x) → column_stats_text.whole (message_of x)
 stat_whole x can = column_whole (message_of x) (int_part x.body) (text_part x.body) (bucket_part x.body can.1.1.1.0) (date_part x.body) (bin_part x.body) (collection_part x.body)

@@ -11,7 +11,7 @@ use Rattle.orc_wire.specs.declared.type_msg.TypeMsg.{TypeMsg}
 use Rattle.orc_wire.specs.Members.{Member}
 use Rattle.orc_wire.specs.Messages.{post_script, footer, metadata}
 use Rattle.orc_wire.specs.Spells.{Spells, Faults}
-use Rattle.orc_wire.specs.SpellsCover.{some_spelled}
+use Rattle.orc_wire.specs.laws.SpellsCover.{some_spelled}
 use Rattle.orc_wire.proofs.KeptLaws.{kept_or_not}
 use Rattle.orc_wire.proofs.WholeLaws.{footer_kept}
 use Rattle.orc_values.specs.Shapes.{Shape, width}
@@ -25,7 +25,7 @@ use Rattle.orc_tail.specs.Tests.{schema_of}
 use Rattle.orc_tail.specs.Stripes.{stripe_tests, stripe_end, stripes_rows, stripes_length, most_stripes, most_stripe_rows, most_rows, most_bytes}
 use Rattle.orc_tail.specs.Statistics.{have_few, stats_read, stripe_stats_read}
 use Rattle.orc_tail.specs.Tails.{most_versions, postscript_tests, end_tests, footer_tests, metadata_tests, limit_tests}
-use Rattle.orc_tail.specs.Tails.{tail_of, IsTail, OpenFault}
+use Rattle.orc_tail.specs.Tails.{tail_of, IsTail, TailOpenFault}
 use Rattle.orc_tail.specs.declared.tail.Tail.{Tail}
 use Rattle.orc_tail.specs.declared.fault.FileFault.{FileFault}
 use Rattle.orc_tail.specs.declared.fault.FileFault.TheVariants as fault
@@ -143,7 +143,7 @@ metadata_cover text f s are =
     checked (is_true (have_few (width s) m.stripe_stats)) (λ b. inl (m, refl))))
 
 -- bytes pass all tests of a tail, or one fails
-pub tail_cover : (bytes : List ℕ) → AllBytes bytes → ((tail : Tail) × IsTail bytes tail) ⊎ ((fault : FileFault) × OpenFault bytes fault)
+pub tail_cover : (bytes : List ℕ) → AllBytes bytes → ((tail : Tail) × IsTail bytes tail) ⊎ ((fault : FileFault) × TailOpenFault bytes fault)
 tail_cover bytes are =
     chained (end_cover bytes are) (λ m a.
     chained (footer_cover (footer_bytes bytes m) (part _ _ bytes are)) (λ f b.

@@ -9,7 +9,7 @@ use Rattle.orc_values.specs.Shapes.{Shape, width}
 use Rattle.orc_stats.specs.declared.stat.Stat.{Stat}
 use Rattle.orc_io.specs.Devices.{bytes_at}
 use Rattle.orc_tail.specs.Layout.{postscript_place, footer_bytes, metadata_bytes}
-use Rattle.orc_tail.specs.Tails.{end_tests, footer_tests, metadata_tests, limit_tests, tail_of, IsTail, OpenFault}
+use Rattle.orc_tail.specs.Tails.{end_tests, footer_tests, metadata_tests, limit_tests, tail_of, IsTail, TailOpenFault}
 use Rattle.orc_tail.specs.Statistics.{have_few}
 use Rattle.orc_tail.specs.declared.fault.FileFault.{FileFault}
 
@@ -36,13 +36,13 @@ module _ (postscript : PostScript) (place : ℕ) (footer_text metadata_text : Li
   metadata_are : (bytes : List ℕ) → Ends bytes → MetadataAt bytes → metadata_text ≡ metadata_bytes bytes postscript
   metadata_are bytes e p = p ∙ ap (λ (t : ℕ). bytes_at (t - postscript.footer_length - postscript.metadata_length) postscript.metadata_length bytes) e.1
 
-  pub footer_fails : (told : Option (List ℕ)) (fault : FileFault) → IfSome told Ends → IfSome told FooterAt → (footer_tests footer_text).fails fault → IfSome told (λ bytes. OpenFault bytes fault)
+  pub footer_fails : (told : Option (List ℕ)) (fault : FileFault) → IfSome told Ends → IfSome told FooterAt → (footer_tests footer_text).fails fault → IfSome told (λ bytes. TailOpenFault bytes fault)
   footer_fails None fault e p h = tt
   footer_fails (Some bytes) fault e p h = inr (postscript, e.0, inl (subst (λ (t : List ℕ). (footer_tests t).fails fault) (footer_are bytes e p) h))
 
   module _ (f : Footer) (s : Shape) (foot : (footer_tests footer_text).finds (f, s)) where
     pub metadata_fails : (told : Option (List ℕ)) (fault : FileFault) → IfSome told Ends → IfSome told FooterAt → IfSome told MetadataAt → (metadata_tests metadata_text f s).fails fault
-        → IfSome told (λ bytes. OpenFault bytes fault)
+        → IfSome told (λ bytes. TailOpenFault bytes fault)
     metadata_fails None fault e p q h = tt
     metadata_fails (Some bytes) fault e p q h =
         inr (
@@ -57,7 +57,7 @@ module _ (postscript : PostScript) (place : ℕ) (footer_text metadata_text : Li
 
     module _ (m : Metadata) (meta : (metadata_tests metadata_text f s).finds m) where
       pub limits_fail : (told : Option (List ℕ)) (fault : FileFault) → IfSome told Ends → IfSome told FooterAt → IfSome told MetadataAt
-          → (limit_tests (place - postscript.footer_length - postscript.metadata_length) f s m).fails fault → IfSome told (λ bytes. OpenFault bytes fault)
+          → (limit_tests (place - postscript.footer_length - postscript.metadata_length) f s m).fails fault → IfSome told (λ bytes. TailOpenFault bytes fault)
       limits_fail None fault e p q h = tt
       limits_fail (Some bytes) fault e p q h =
           inr (

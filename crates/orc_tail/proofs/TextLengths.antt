@@ -1,10 +1,9 @@
 -- How long the texts of a tail's messages are at most.
-use Rattle.std.proofs.Common.{◌≡◌, ℕ, zero, suc, ◌+◌, ◌*◌, ◌≤◌, ℤ, Bool, true, false, List, [], ◌∷◌, ◌++◌, length, map, Option, Some, None, arith, length-append, refl, ap}
-use Rattle.std.specs.Prelude.{cond, nat_lt, ◌/◌, ◌%◌}
+use Rattle.std.proofs.Common.{◌≡◌, ℕ, suc, ◌+◌, ◌*◌, ◌≤◌, ℤ, Bool, List, [], ◌∷◌, ◌++◌, length, map, Option, Some, None, arith, length-append, refl, ap}
 use Rattle.std.specs.List.{AllByRecursion}
 use Rattle.std.specs.Option.{IfSome}
 use Rattle.std.proofs.Math.Nat.{mul-suc, mul-le-mul_left}
-use Rattle.orc_bits.specs.Varint.{groups, varint_text}
+use Rattle.orc_bits.specs.Varint.{varint_text}
 use Rattle.orc_bits.specs.Zigzag.{zig}
 use Rattle.orc_wire.specs.Fields.{varint, sized}
 use Rattle.orc_wire.specs.CanonicalText.{number_text, sized_text, some_text, known_text, list_text, shown_text, packed_text, varints_text, flag_number}
@@ -21,20 +20,13 @@ use Rattle.orc_stats.specs.declared.stat.Body.{Body}
 use Rattle.orc_stats.specs.declared.stat.Body.TheVariants as body
 use Rattle.orc_stats.specs.Messages.{message_of, int_record, text_record, bucket_record, date_record, bin_record, collection_record}
 use Rattle.orc_tail.proofs.ReadBits.{where_so}
+use Rattle.orc_bits.proofs.VarintLemmas.{groups_len}
 
 -- ---- fields
 
-either_most : (b : Bool) (n x : ℕ) (rest : List ℕ) (k : ℕ) → length rest ≤ suc k → length (cond b (n ∷ []) (x ∷ rest)) ≤ suc (suc k)
-either_most true n x rest k h = omega arith
-either_most false n x rest k h = omega (arith, h)
-
-groups_most : (k n : ℕ) → length (groups k n) ≤ suc k
-groups_most zero n = omega arith
-groups_most (suc k) n = either_most (nat_lt n 128) n (n % 128 + 128) (groups k (n / 128)) k (groups_most k (n / 128))
-
 varint_most : (n : ℕ) → length (varint_text n) ≤ 10
 unfolding varint_text
-varint_most n = groups_most 9 n
+varint_most n = groups_len 9 n
 
 pub number_most : (n v : ℕ) → length (number_text n v) ≤ 20
 number_most n v = omega (arith, length-append (varint_text (n * 8 + 0)) (varint_text v), varint_most (n * 8 + 0), varint_most v)

@@ -3,9 +3,10 @@
 use Rattle.std.specs.Prelude.{◌≡◌, ℕ, ◌+◌, ◌^◌, ◌≤◌, List, [], ◌∷◌, get_or}
 use Rattle.std.specs.List.{AllByRecursion}
 use Rattle.orc_wire.specs.declared.stripe_info.StripeInfo.{StripeInfo}
-use Rattle.orc_column_reader.specs.Stripe.{most_cells}
+use Rattle.orc_values.specs.Limits.{most_cells}
 use Rattle.orc_tail.specs.Tests.{Test, check, gives}
 use Rattle.orc_tail.specs.declared.fault.FileFault.TheVariants.{BadStripe, Limit}
+use Rattle.orc_io.specs.Devices.{bytes_at}
 
 -- how many bytes a stripe has: its index, its data, its footer
 abbrev pub stripe_length : StripeInfo → ℕ
@@ -63,3 +64,7 @@ IsLaid place (s ∷ ss) = (s.offset ≡ place) × IsLaid (stripe_end s) ss
 -- each stripe ends at the place or before it
 abbrev pub AllBefore : ℕ → List StripeInfo → Type 0
 AllBefore place ss = AllByRecursion (λ s. stripe_end s ≤ place) ss
+
+-- a stripe's bytes, of those of its file
+abbrev pub stripe_bytes : StripeInfo → List ℕ → List ℕ
+stripe_bytes info bytes = bytes_at info.offset (stripe_length info) bytes

@@ -9,7 +9,7 @@ use Rattle.orc_wire.specs.declared.post_script.PostScript.{PostScript}
 use Rattle.orc_wire.specs.declared.footer.Footer.{Footer}
 use Rattle.orc_wire.specs.declared.column_stats.Metadata.{Metadata}
 use Rattle.orc_values.specs.Shapes.{Shape, width}
-use Rattle.orc_types.specs.declared.fault.TypeFault.TheVariants as types
+use Rattle.orc_trees.specs.declared.fault.TypeFault.TheVariants as types
 use Rattle.orc_stats.specs.declared.stat.Stat.{Stat}
 use Rattle.orc_stats.specs.Messages.{in_limits}
 use Rattle.orc_io.specs.Devices.{bytes_at}
@@ -108,8 +108,8 @@ abbrev pub IsTail : List ℕ → Tail → Type 0
 IsTail bytes = (tail_tests bytes).finds
 
 -- the fault of the first test that the bytes don't pass
-abbrev pub OpenFault : List ℕ → FileFault → Type 0
-OpenFault bytes = (tail_tests bytes).fails
+abbrev pub TailOpenFault : List ℕ → FileFault → Type 0
+TailOpenFault bytes = (tail_tests bytes).fails
 
 -- why a read is refused: memory ran out, the source failed, or the bytes, where they are told, have this fault
 abbrev pub ReadFault : Option (List ℕ) → FileFault → (List ℕ → Type 0) → Type 0

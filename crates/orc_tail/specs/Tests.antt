@@ -7,13 +7,13 @@ use Rattle.std.proofs.Common.{sym, ◌∙◌, subst, inl, inr}
 use Rattle.orc_wire.specs.declared.fault.WireFault.{WireFault}
 use Rattle.orc_wire.specs.Members.{Member}
 use Rattle.orc_wire.specs.Spells.{Spells, Faults}
-use Rattle.orc_wire.specs.SpellsLaws.{one_spelled, none_spelled}
+use Rattle.orc_wire.specs.laws.SpellsLaws.{one_spelled, none_spelled}
 use Rattle.orc_wire.specs.declared.type_msg.TypeMsg.{TypeMsg}
 use Rattle.orc_values.specs.Shapes.{Shape}
 use Rattle.orc_types.specs.Schemas.{HasTypes}
 use Rattle.orc_types.specs.Faults.{TypesFault}
-use Rattle.orc_types.specs.declared.fault.TypeFault.{TypeFault}
-use Rattle.orc_types.specs.declared.fault.TypeFault.TheVariants.{OutOfMemory}
+use Rattle.orc_trees.specs.declared.fault.TypeFault.{TypeFault}
+use Rattle.orc_trees.specs.declared.fault.TypeFault.TheVariants.{OutOfMemory}
 use Rattle.orc_types.proofs.Trees.{one_schema}
 use Rattle.orc_types.proofs.Exclusion.{no_schema}
 use Rattle.orc_tail.specs.declared.fault.FileFault.{FileFault}

@@ -1,10 +1,10 @@
 //! Why bytes are no file, or why a file can't be read or written.
 ghost use Rattle.std.specs.Prelude.{◌≡◌, ◌≢◌, ◌⊎◌};
-ghost use Rattle.orc_column_reader.specs.declared.fault.StripeFault.TheVariants as stripe;
+ghost use Rattle.orc_directory.specs.declared.fault.StripeFault.TheVariants as stripe;
 ghost use Rattle.orc_tail.specs.declared.fault.FileFault.TheVariants as fault;
 
-use orc_column_reader::StripeFault;
-use orc_types::TypeFault;
+use orc_directory::StripeFault;
+use orc_trees::TypeFault;
 use std::alloc::{AllocError, AllocFailed};
 use thiserror::Error;
 

@@ -4,7 +4,7 @@ ghost use Rattle.orc_bits.specs.Varint.{AllBytes};
 ghost use Rattle.orc_wire.specs.CanonicalMessages.{post_script_text};
 ghost use Rattle.orc_tail.specs.Tests.{AreAlike};
 ghost use Rattle.orc_tail.specs.Stripes.{stripes_length, IsLaid, AllBefore};
-ghost use Rattle.orc_tail.specs.Tails.{IsTail, OpenFault};
+ghost use Rattle.orc_tail.specs.Tails.{IsTail, TailOpenFault};
 ghost use Rattle.orc_tail.specs.Images.{image, tail_text, postscript_of, IsWithinLimits, HasBits};
 ghost use Rattle.orc_tail.specs.declared.tail.Tail.{Tail};
 ghost use Rattle.orc_tail.specs.declared.fault.FileFault.{FileFault};
@@ -16,12 +16,12 @@ pub fn tail_laws()
     // Bytes have one tail at most.
     ensures one { (bytes : List ℕ) (a b : Tail) → IsTail bytes a → IsTail bytes b → a ≡ b }
     // Where bytes fail a test, they have no tail.
-    ensures none { (bytes : List ℕ) (tail : Tail) (fault : FileFault) → OpenFault bytes fault → IsTail bytes tail → ⊥ }
+    ensures none { (bytes : List ℕ) (tail : Tail) (fault : FileFault) → TailOpenFault bytes fault → IsTail bytes tail → ⊥ }
     // One fault is the first, but that what is wrong with types may be said in several ways.
-    ensures single { (bytes : List ℕ) (e f : FileFault) → OpenFault bytes e → OpenFault bytes f → AreAlike e f }
+    ensures single { (bytes : List ℕ) (e f : FileFault) → TailOpenFault bytes e → TailOpenFault bytes f → AreAlike e f }
     // Any bytes, each below 256, have a tail or a fault.
     ensures cover { (bytes : List ℕ) → AllBytes bytes → ((tail : Tail) × IsTail bytes tail)
-        ⊎ ((fault : FileFault) × OpenFault bytes fault) }
+        ⊎ ((fault : FileFault) × TailOpenFault bytes fault) }
 
     // A tail that bytes have is within the limits.
     ensures limits { (bytes : List ℕ) (tail : Tail) → IsTail bytes tail → IsWithinLimits tail }

@@ -7,7 +7,8 @@ mod tail;
 
 pub use fault::{FileFault, stripe_fault};
 pub use laws::{image_laws, tail_laws};
+pub use orc_values::MOST_STRIPE_ROWS;
 pub use tail::{
-    MOST_BYTES, MOST_ROWS, MOST_STRIPE_ROWS, MOST_STRIPES, Tail, file_statistics, read_capped_tail,
-    read_tail, stripe_length,
+    MOST_BYTES, MOST_ROWS, MOST_STRIPES, Tail, file_statistics, read_capped_tail, read_tail,
+    stripe_length,
 };

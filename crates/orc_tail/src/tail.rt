@@ -12,7 +12,7 @@ mod writing;
 
 pub use extent::stripe_length;
 pub use file_stats::file_statistics;
-pub use limits::{MOST_BYTES, MOST_ROWS, MOST_STRIPE_ROWS, MOST_STRIPES};
+pub use limits::{MOST_BYTES, MOST_ROWS, MOST_STRIPES};
 use orc_stats::Stat;
 use orc_types::Schema;
 use orc_wire::{Bytes, Items, StripeInfo, UserMetadataItem};

@@ -1,7 +1,8 @@
 //! The calls that stripes are read by. None has a contract here: what the called ones promise is long, and would be a
 //! part of the proof of each test that makes them, of which the proof says nothing but that it is safe.
-use orc_json::layout::Layout;
-use orc_stripe::{RowCursor, StripeFault, StripeView};
+use orc_directory::StripeFault;
+use orc_json_printer::layout::Layout;
+use orc_stripe_reader::{RowCursor, StripeView};
 use orc_types::Schema;
 use orc_values::Row;
 use orc_wire::StripeInfo;

@@ -1,8 +1,9 @@
 //! The lines that a stripe's rows print as, all at once, one by one, or with no row made.
 use crate::calls::{cursor_of, next_row, next_text, rows_of};
+use orc_directory::StripeFault;
 use orc_json::RowPrinter;
-use orc_json::layout::Layout;
-use orc_stripe::{RowCursor, StripeFault};
+use orc_json_printer::layout::Layout;
+use orc_stripe_reader::RowCursor;
 use orc_types::{Schema, fits, row_to_json};
 use orc_values::Row;
 use orc_wire::StripeInfo;

@@ -11,16 +11,18 @@ use Rattle.orc_values.specs.Cells.{Cell}
 use Rattle.orc_values.specs.Columns.{cells}
 use Rattle.orc_values.specs.Shapes.{Shape, scalar, list_of, map_of, struct_of, width, shape_at}
 use Rattle.orc_values.specs.declared.kind.Scalar.TheVariants as kind
-use Rattle.orc_column_reader.specs.Directory.{slice}
+use Rattle.orc_directory.specs.Directory.{slice}
 use Rattle.orc_column_reader.specs.Stripe.{Streams, HasFooter, encoding_at}
-use Rattle.orc_row_index.specs.Positions.{IsPosition, reader, octets, octets_position, octets_size, position_size}
+use Rattle.orc_row_index.specs.Positions.{octets_position, octets_size, position_size}
+use Rattle.orc_row_groups.specs.Counts.{octets}
 use Rattle.orc_row_index.specs.RunStreams.{RunStream, no_stream, bit_runs, byte_runs, number_runs, present_runs, text_runs, value_runs, text_octets, value_bytes}
 use Rattle.orc_group_reader.specs.Entering.{AgreeFrom}
 use Rattle.orc_group_reader.specs.Streams.{RunsAgree}
 use Rattle.orc_group_reader.specs.Columns.{OctetsAgree, AgreeFromPositions}
-use Rattle.orc_stripe.specs.Opened.{Opened}
-use Rattle.orc_stripe.specs.GroupCursors.{IsGroupEntry, StartsGroup}
+use Rattle.orc_stripe_reader.specs.Opened.{Opened}
+use Rattle.orc_stripe_reader.specs.GroupCursors.{IsGroupEntry, StartsGroup}
 use Rattle.orc_theorems.specs.BeforeGroups.{offset_of, with_bytes, DiffersOnlyBefore}
+use Rattle.orc_row_index.proofs.PositionParts.{place_long}
 
 -- ---- streams that agree with one that agrees with a third
 
@@ -90,12 +92,6 @@ octets_alike o None None h = refl
 octets_alike o None (Some b) h = absurd h
 octets_alike o (Some a) None h = absurd h
 octets_alike o (Some a) (Some b) h = refl
-
-place_size : (r : RunStream) (n : ℕ) (ps : List ℕ) → IsPosition reader r n ps → length ps ≡ position_size r
-place_size no_stream n ps h = ap (λ (l : List ℕ). length l) h
-place_size (bit_runs b) n ps h = ap (λ (l : List ℕ). length l) h.3
-place_size (byte_runs b) n ps h = ap (λ (l : List ℕ). length l) h.2
-place_size (number_runs v s b) n ps h = ap (λ (l : List ℕ). length l) h.2
 
 -- ---- where the offsets stand among the positions
 
@@ -194,7 +190,7 @@ column_before s x e f g before ps h same =
     let last : List ℕ = h.places.last in
     let after : List ℕ = octets_position (value_bytes s x) (octets before) ++ last in
     let sized : octets_size (value_bytes s (streams e f)) ≡ octets_size (value_bytes s x) = octets_alike (octets before) (value_bytes s (streams e f)) (value_bytes s x) h.content_same in
-    let counted : length first ≡ present_of f = place_size (present_runs (x.stream 0)) (length before) first h.places.present_position
+    let counted : length first ≡ present_of f = place_long (present_runs (x.stream 0)) (length before) first h.places.present_position
     ∙ sym (runs_alike (get_or first 0 0) (present_runs (f 0)) (present_runs (x.stream 0)) h.present_same) in
     let in_first : present_of f ≡ 3 → get_or ps 0 0 ≡ get_or first 0 0 = (λ three. ap (λ (l : List ℕ). get_or l 0 0) h.places.parts ∙ first_at first after (counted ∙ three)) in
     let in_content : octets_size (value_bytes s (streams e f)) ≡ 1 → get_or ps (present_of f) 0 ≡ octets before = (λ one.

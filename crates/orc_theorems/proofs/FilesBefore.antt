@@ -1,27 +1,28 @@
 -- What is printed from a group on of a file that differs from another only before the group's offsets.
 use Rattle.std.proofs.Common.{◌≡◌, ◌∙◌, ℕ, zero, suc, ◌+◌, ◌*◌, ◌<◌, ◌≤◌, inl, inr, List, [], ◌∷◌, ◌++◌, length, map, get_or, take, drop, Option, refl, sym, ap, subst, arith}
-use Rattle.std.proofs.lemmas.List.Concat.{flat_map-append, flat_map-cons}
+use Rattle.std.proofs.lemmas.List.Concat.{flat_map-append}
 use Rattle.orc_wire.specs.declared.stripe_footer.StripeFooter.{StripeFooter}
 use Rattle.orc_wire.specs.declared.stripe_info.StripeInfo.{StripeInfo}
 use Rattle.orc_values.specs.Cells.{Cell}
 use Rattle.orc_values.specs.Shapes.{Shape}
 use Rattle.orc_column_reader.specs.Stripe.{HasFooter, IsStripe, columns_of}
-use Rattle.orc_stripe.specs.GroupCursors.{HasGroup, StartsGroup}
-use Rattle.orc_stripe.proofs.OneStripe.{one_stripe}
-use Rattle.orc_tail.specs.Stripes.{stripe_at, stripes_rows}
-use Rattle.orc_file.specs.FileRows.{stripe_bytes, opened_stripe, cut_rows, joined, AreOfStripes, HasRows, FileIs}
+use Rattle.orc_stripe_reader.specs.GroupCursors.{HasGroup, StartsGroup}
+use Rattle.orc_stripe_reader.proofs.OneStripe.{one_stripe}
+use Rattle.orc_tail.specs.Stripes.{stripe_at, stripe_bytes}
+use Rattle.orc_file_reader.specs.FileRows.{opened_stripe, cut_rows, rows_together, AreOfStripes, HasRows, FileIs}
 use Rattle.orc_tail.specs.declared.tail.Tail.{Tail}
-use Rattle.orc_file.proofs.RowLemmas.{rows_cut, cut_whole, one_rows}
+use Rattle.orc_file_reader.proofs.RowLemmas.{rows_cut, cut_whole, one_rows}
 use Rattle.orc_check.specs.Findings.{rows_at}
 use Rattle.orc_check.specs.RightIndexes.{StartsAtGroups}
 use Rattle.orc_check.proofs.NoFinding.{stripe_is}
 use Rattle.orc_cli_output.specs.Output.{IsOutsideFile}
 use Rattle.orc_cli_output.specs.declared.fault.CliFault.{CliFault}
 use Rattle.orc_cli_rows.specs.Rows.{row_line, row_lines, HaveJson, StripeStops, EndsAt}
-use Rattle.orc_cli_rows.specs.FromGroup.{AreFromGroup, AreFrom, NoLinesFrom, EndsFrom}
-use Rattle.orc_cli_check.specs.Places.{IsPlace, rows_before}
+use Rattle.orc_cli_rows.specs.FromGroup.{AreFromGroup, AreLinesFromGroup, NoLinesFrom, EndsFrom}
+use Rattle.orc_theorems.specs.Places.{IsPlace, rows_before}
 use Rattle.orc_theorems.specs.BeforeGroups.{FileDiffersOnlyBefore}
 use Rattle.orc_theorems.proofs.BeforeLemmas.{starts_before, footer_before, footer_back}
+use Rattle.orc_theorems.proofs.PlaceLemmas.{parts_behind, rows_behind}
 
 -- ---- stripes that are the same in two files
 
@@ -53,39 +54,6 @@ same_text a b (i ∷ is) (suc k) zero e le lt = absurd (omega (arith, le))
 same_text a b (i ∷ is) (suc k) (suc m) e le lt = same_text a b is k m e (omega (arith, le)) (omega (arith, lt))
 
 -- ---- the rows of the stripes behind a number
-
-parts_behind : (s : Shape) (bytes : List ℕ) (infos : List StripeInfo) (parts : List (List Cell)) (k : ℕ) → AreOfStripes s bytes infos parts → AreOfStripes s bytes (drop k infos) (drop k parts)
-parts_behind s bytes infos parts zero h = h
-parts_behind s bytes [] [] (suc k) h = tt
-parts_behind s bytes [] (p ∷ parts) (suc k) h = absurd h
-parts_behind s bytes (i ∷ is) [] (suc k) h = absurd h
-parts_behind s bytes (i ∷ is) (p ∷ parts) (suc k) h = parts_behind s bytes is parts k h.1
-
-drop_front : (xs ys : List Cell) (k : ℕ) → k ≤ length xs → drop k (xs ++ ys) ≡ drop k xs ++ ys
-drop_front xs ys zero le = refl
-drop_front [] ys (suc k) le = absurd (omega (arith, le))
-drop_front (x ∷ xs) ys (suc k) le = drop_front xs ys k (omega (arith, le))
-
-drop_past : (xs ys : List Cell) (k : ℕ) → drop (k + length xs) (xs ++ ys) ≡ drop k ys
-drop_past [] ys k = let z : k + 0 ≡ k = omega arith in ap (λ (m : ℕ). drop m ys) z
-drop_past (x ∷ xs) ys k = let z : k + suc (length xs) ≡ suc (k + length xs) = omega arith in ap (λ (m : ℕ). drop m (x ∷ (xs ++ ys))) z ∙ drop_past xs ys k
-
--- some rows into a stripe, those that come are the rest of it and the stripes behind it
-rows_behind : (s : Shape) (bytes : List ℕ) (infos : List StripeInfo) (parts : List (List Cell)) (n inner : ℕ) → n < length infos → AreOfStripes s bytes infos parts → inner ≤ length (rows_at parts n)
-    → drop (stripes_rows (take n infos) + inner) (joined parts) ≡ drop inner (rows_at parts n) ++ joined (drop (n + 1) parts)
-rows_behind s bytes [] parts n inner lt h le = absurd (omega (arith, lt))
-rows_behind s bytes (i ∷ is) [] n inner lt h le = absurd h
-rows_behind s bytes (i ∷ is) (p ∷ parts) zero inner lt h le =
-    let none : 0 + inner ≡ inner = omega arith in
-    let all : joined (p ∷ parts) ≡ p ++ joined parts = flat_map-cons (λ (r : List Cell). r) p parts in
-    (λ i. drop (none i) (all i)) ∙ drop_front p (joined parts) inner le
-rows_behind s bytes (i ∷ is) (p ∷ parts) (suc n) inner lt h le =
-    let own : length p ≡ i.number_of_rows = h.0.spelled.counted in
-    let sum : stripes_rows (take (suc n) (i ∷ is)) + inner ≡ (stripes_rows (take n is) + inner) + length p = omega (arith, own) in
-    let more : suc (n + 1) ≡ suc n + 1 = omega arith in
-    let all : joined (p ∷ parts) ≡ p ++ joined parts = flat_map-cons (λ (r : List Cell). r) p parts in
-    (λ i. drop (sum i) (all i)) ∙ drop_past p (joined parts) (stripes_rows (take n is) + inner) ∙ rows_behind s bytes is parts n inner (omega (arith, lt)) h.1 le
-    ∙ ap (λ (k : ℕ). drop inner (rows_at parts n) ++ joined (drop k (p ∷ parts))) more
 
 take_none : (k : ℕ) → ◌≡◌ {A = List Cell} (take k []) []
 take_none zero = refl
@@ -132,20 +100,20 @@ module _ (bytes : List ℕ) (tail : Tail) (rows : List Cell) (is : FileIs bytes 
       h.are.rows_are (columns_of h.footer (mine n)) (rows_at parts n)
       (starts_here lt h.footer (footer_there lt h.footer h.has_footer) (record { indexed = h.are.has_group.indexed; there = h.are.has_group.there }))
 
-  later_rows : (read : List Cell) → HasRows tail.schema other (drop (n + 1) tail.stripes) read → read ≡ joined (drop (n + 1) parts)
+  later_rows : (read : List Cell) → HasRows tail.schema other (drop (n + 1) tail.stripes) read → read ≡ rows_together (drop (n + 1) parts)
   later_rows read h =
-      one_rows tail.schema bytes (drop (n + 1) tail.stripes) read (joined (drop (n + 1) parts))
+      one_rows tail.schema bytes (drop (n + 1) tail.stripes) read (rows_together (drop (n + 1) parts))
       (record { parts = h.parts; stripes = same_stripes tail.schema other bytes (drop (n + 1) tail.stripes) h.parts differs.behind h.stripes; rows_are = h.rows_are })
       (record { parts = drop (n + 1) parts; stripes = parts_behind tail.schema bytes tail.stripes parts (n + 1) of_stripes; rows_are = refl })
 
-  pub lines_before : (lines : List ℕ) → AreFrom other tail n group lines → lines ≡ row_lines tail.schema (drop (rows_before tail n group) rows)
+  pub lines_before : (lines : List ℕ) → AreLinesFromGroup other tail n group lines → lines ≡ row_lines tail.schema (drop (rows_before tail n group) rows)
   lines_before lines h =
       let own = h.of_group in
       let first : own.rows ≡ drop (group * tail.stride) (rows_at parts n) = from_group own.rows h.there own.are in
-      let rest : h.of_later.rows ≡ joined (drop (n + 1) parts) = later_rows h.of_later.rows h.of_later.has_rows in
+      let rest : h.of_later.rows ≡ rows_together (drop (n + 1) parts) = later_rows h.of_later.rows h.of_later.has_rows in
       let counted : length (rows_at parts n) ≡ (stripe_at tail.stripes n).number_of_rows = (let stripe = stripe_is bytes tail rows is n h.there in stripe.spelled.counted) in
       let inner : group * tail.stride ≤ length (rows_at parts n) = (let begun = own.are.are.has_group.there in omega (arith, begun, counted)) in
-      let whole : joined parts ≡ rows = cut_whole tail.stripes bytes tail.schema rows is.has_rows in
+      let whole : rows_together parts ≡ rows = cut_whole tail.stripes bytes tail.schema rows is.has_rows in
       let all : own.rows ++ h.of_later.rows ≡ drop (rows_before tail n group) rows =
       (λ i. first i ++ rest i) ∙ sym (rows_behind tail.schema bytes tail.stripes parts n (group * tail.stride) h.there of_stripes inner) ∙ ap (drop (rows_before tail n group)) whole in
       h.lines_are ∙ (λ i. own.lines_are i ++ h.of_later.lines_are i) ∙ sym (flat_map-append (row_line tail.schema) own.rows h.of_later.rows) ∙ ap (row_lines tail.schema) all

@@ -2,22 +2,22 @@
 use Rattle.std.proofs.Common.{◌≡◌, ℕ, ◌<◌, List, [], ◌∷◌, length, Option, Some, Result, Ok, Err, subst}
 use Rattle.std.specs.Prelude.{IfSome, IfErr, MatchResult}
 use Rattle.orc_values.specs.Cells.{Cell}
-use Rattle.orc_file.specs.FileRows.{FileIs, joined}
+use Rattle.orc_file_reader.specs.FileRows.{FileIs, rows_together}
 use Rattle.orc_tail.specs.declared.tail.Tail.{Tail}
 use Rattle.orc_tail.specs.declared.fault.FileFault.{FileFault}
-use Rattle.orc_file.proofs.RowLemmas.{one_file}
+use Rattle.orc_file_reader.proofs.RowLemmas.{one_file}
 use Rattle.orc_check.specs.Findings.{Findings}
 use Rattle.orc_check.specs.declared.finding.Finding.{Finding}
 use Rattle.orc_merger.specs.Merging.{IsMerge}
 use Rattle.orc_merger.specs.Outcomes.{WroteMerge}
 use Rattle.orc_theorems.specs.Inputs.{AreWithoutFinding, AreFound}
-use Rattle.orc_theorems.proofs.Told.{at_told}
 use Rattle.orc_theorems.proofs.StepLemmas.{merge_of}
+use Rattle.orc_io.proofs.Told.{at_told}
 
 -- what the theorem says of one merge
 abbrev pub MergedLaw : Type 0
 MergedLaw = (files : List (List ℕ)) (tail : Tail) (out : List ℕ) (parts : List (List Cell)) → IsMerge files tail out → length out < 18446744073709551616
-    → AreWithoutFinding files parts → FileIs out tail (joined parts) × Findings out tail (joined parts) []
+    → AreWithoutFinding files parts → FileIs out tail (rows_together parts) × Findings out tail (rows_together parts) []
 
 -- a file has one list of findings
 abbrev pub OneList : Type 0
@@ -34,9 +34,9 @@ nothing_found merged one a b out tail f g found in_a in_b w in_out f_none g_none
     let y = without b g g_none in_b in
     let m = merge_of (a ∷ b ∷ []) tail out w in
     let is = merged (a ∷ b ∷ []) tail out (x.1 ∷ y.1 ∷ []) m.0 m.1 ((x.0, x.2, x.3), ((y.0, y.2, y.3), tt)) in
-    let same = one_file out tail in_out.0 (joined (x.1 ∷ y.1 ∷ [])) in_out.1 is.0 in_out.2 in
+    let same = one_file out tail in_out.0 (rows_together (x.1 ∷ y.1 ∷ [])) in_out.1 is.0 in_out.2 in
     let none : Findings out in_out.0 in_out.1 [] = subst (λ (rows : List Cell). Findings out in_out.0 rows []) same.1
-    (subst (λ (t : Tail). Findings out t (joined (x.1 ∷ y.1 ∷ [])) []) same.0 is.1) in
+    (subst (λ (t : Tail). Findings out t (rows_together (x.1 ∷ y.1 ∷ [])) []) same.0 is.1) in
     one out in_out.0 in_out.1 found [] in_out.3 none
 
 -- ---- checking one file

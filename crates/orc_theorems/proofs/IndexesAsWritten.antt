@@ -1,29 +1,24 @@
 -- The row indexes of files that were written, and of files that are merged of these, are as a writer writes them.
-use Rattle.std.proofs.Common.{◌≡◌, ◌∙◌, ℕ, zero, suc, ◌+◌, ◌<◌, Bool, true, false, Option, Some, List, [], ◌∷◌, ◌++◌, length, map, take, drop, refl, sym, ap, subst, arith, append_assoc, length-append}
-use Rattle.std.proofs.Math.Seq.{drop-append_seam, take-append_seam}
+use Rattle.std.proofs.Common.{◌≡◌, ◌∙◌, ℕ, ◌+◌, ◌<◌, Option, List, [], ◌∷◌, ◌++◌, length, map, drop, refl, sym, ap, subst, arith, append_assoc, length-append}
 use Rattle.orc_rle.specs.declared.sign.Rle.{Rle}
-use Rattle.orc_rle.specs.declared.sign.Sign.TheVariants.{Signed, Unsigned}
 use Rattle.orc_wire.specs.CanonicalMessages.{stripe_footer_text}
 use Rattle.orc_wire.specs.Messages.{stripe_footer}
 use Rattle.orc_wire.specs.Spells.{Spells}
-use Rattle.orc_wire.specs.SpellsLaws.{one_spelled}
-use Rattle.orc_wire.specs.declared.encoding.Encoding.{Encoding}
+use Rattle.orc_wire.specs.laws.SpellsLaws.{one_spelled}
 use Rattle.orc_wire.specs.declared.stripe_footer.StripeFooter.{StripeFooter}
 use Rattle.orc_wire.specs.declared.stripe_info.StripeInfo.{StripeInfo}
-use Rattle.orc_wire.specs.EncodingKinds.{is_dictionary}
 use Rattle.orc_values.specs.Cells.{Cell}
 use Rattle.orc_values.specs.Columns.{cells}
 use Rattle.orc_values.specs.Fits.{RowsFit}
-use Rattle.orc_values.specs.Shapes.{Shape, scalar, list_of, map_of, struct_of, width, shape_at}
-use Rattle.orc_values.specs.declared.kind.Scalar.TheVariants as kind
-use Rattle.orc_column_reader.specs.Directory.{slice}
-use Rattle.orc_column_reader.specs.Stripe.{Streams, version_at, columns_of, HasFooter, IsStripe}
-use Rattle.orc_row_index.specs.Bounds.{before_group}
+use Rattle.orc_values.specs.Shapes.{Shape, width, shape_at}
+use Rattle.orc_directory.specs.Directory.{slice}
+use Rattle.orc_column_reader.specs.Stripe.{Streams, columns_of, HasFooter, IsStripe}
+use Rattle.orc_row_groups.specs.Bounds.{before_group}
 use Rattle.orc_row_index.specs.Positions.{ArePositions, writer, AreWrittenPositions}
 use Rattle.orc_row_index.specs.RowIndex.{IsWrittenIndex}
-use Rattle.orc_row_index.specs.RunStreams.{RunStream, bit_runs, byte_runs, number_runs, present_runs, text_runs, value_runs, text_octets, value_bytes}
-use Rattle.orc_stripe_writer.specs.declared.options.Options.{Options}
-use Rattle.orc_stripe_writer.specs.Groups.{starts, bounds_of}
+use Rattle.orc_row_index.specs.RunStreams.{RunStream, present_runs, value_runs, value_bytes}
+use Rattle.orc_row_batch.specs.declared.options.Options.{Options}
+use Rattle.orc_row_groups.specs.Groups.{starts_of_groups, bounds_of}
 use Rattle.orc_stripe_writer.specs.Indexes.{streams_written, index_bytes}
 use Rattle.orc_stripe_writer.specs.WrittenStripe.{AreFew, IsWrittenStripe}
 use Rattle.orc_stripe_writer.proofs.StripeLaws.{got, all_indexed, indexes_right}
@@ -31,57 +26,21 @@ use Rattle.orc_stripe_writer.proofs.StripeReads.{index_met, columns_found, colum
 use Rattle.orc_stripe_writer.proofs.WrittenDirectory.{drop_front, from_zero}
 use Rattle.orc_stripe_writer.proofs.WrittenReads.{column_at, there}
 use Rattle.orc_tail.specs.Layout.{magic}
-use Rattle.orc_tail.specs.Stripes.{stripe_at, stripe_length}
+use Rattle.orc_tail.specs.Stripes.{stripe_at, stripe_length, stripe_bytes}
 use Rattle.orc_tail.specs.Images.{tail_text}
-use Rattle.orc_file.specs.FileRows.{stripe_bytes, FileIs, cut_rows}
-use Rattle.orc_file.specs.Writing.{WrittenStripe, IsWrittenAt, AreWrittenStripes, bytes_of, rows_of, infos_of, IsWrittenFile}
+use Rattle.orc_file_reader.specs.FileRows.{FileIs, cut_rows}
+use Rattle.orc_file_writer.specs.Writing.{WrittenStripe, IsWrittenAt, AreWrittenStripes, written_bytes, infos_of, IsWrittenFile}
 use Rattle.orc_tail.specs.declared.tail.Tail.{Tail}
 use Rattle.orc_tail.proofs.Seams.{between}
-use Rattle.orc_file.proofs.WriterLemmas as lemmas
+use Rattle.orc_file_writer.proofs.WriterLemmas as lemmas
 use Rattle.orc_file.proofs.WrittenLaws.{parts_of, written_rows}
 use Rattle.orc_check.specs.Findings.{rows_at}
 use Rattle.orc_theorems.specs.WrittenIndexes.{HasWrittenIndex, IsIndexedAsWritten, HasWrittenIndexes, AreIndexedAsWritten, WereWritten}
 use Rattle.orc_theorems.proofs.MergedStripes.{HoldsOfFiles, AreEach, at_number}
+use Rattle.orc_row_index.proofs.SameStreams.{own_same, octets_same}
+use Rattle.orc_theorems.proofs.WrittenIndexes.{cut_written}
 
 -- ---- an index is that of a column's streams, by their bytes
-
-texts_same : (p q : Bool) (x y : Streams) → p ≡ q → x.encoding ≡ y.encoding → x.stream 1 ≡ y.stream 1 → x.stream 2 ≡ y.stream 2 → text_runs p x ≡ text_runs q y
-texts_same true true x y t e a b = λ i. number_runs (version_at (e i).kind) Unsigned (a i)
-texts_same true false x y t e a b = cc
-texts_same false true x y t e a b = cc
-texts_same false false x y t e a b = λ i. number_runs (version_at (e i).kind) Unsigned (b i)
-
-contents_same : (p q : Bool) (x y : Streams) → p ≡ q → x.stream 1 ≡ y.stream 1 → text_octets p x ≡ text_octets q y
-contents_same true true x y t a = refl
-contents_same true false x y t a = cc
-contents_same false true x y t a = cc
-contents_same false false x y t a = ap Some a
-
-own_same : (s : Shape) (x y : Streams) → x.encoding ≡ y.encoding → x.stream 1 ≡ y.stream 1 → x.stream 2 ≡ y.stream 2 → value_runs s x ≡ value_runs s y
-own_same (list_of s o) x y e a b = λ i. number_runs (version_at (e i).kind) Unsigned (b i)
-own_same (map_of k v o) x y e a b = λ i. number_runs (version_at (e i).kind) Unsigned (b i)
-own_same (struct_of fs o) x y e a b = refl
-own_same (scalar kind.Boolean o) x y e a b = ap bit_runs a
-own_same (scalar kind.Byte o) x y e a b = ap byte_runs a
-own_same (scalar kind.Short o) x y e a b = λ i. number_runs (version_at (e i).kind) Signed (a i)
-own_same (scalar kind.Int o) x y e a b = λ i. number_runs (version_at (e i).kind) Signed (a i)
-own_same (scalar kind.Long o) x y e a b = λ i. number_runs (version_at (e i).kind) Signed (a i)
-own_same (scalar kind.Date o) x y e a b = λ i. number_runs (version_at (e i).kind) Signed (a i)
-own_same (scalar kind.Binary o) x y e a b = λ i. number_runs (version_at (e i).kind) Unsigned (b i)
-own_same (scalar kind.String o) x y e a b = texts_same (is_dictionary x.encoding.kind) (is_dictionary y.encoding.kind) x y (ap (λ (k : Encoding). is_dictionary k.kind) e) e a b
-
-octets_same : (s : Shape) (x y : Streams) → x.encoding ≡ y.encoding → x.stream 1 ≡ y.stream 1 → value_bytes s x ≡ value_bytes s y
-octets_same (list_of s o) x y e a = refl
-octets_same (map_of k v o) x y e a = refl
-octets_same (struct_of fs o) x y e a = refl
-octets_same (scalar kind.Boolean o) x y e a = refl
-octets_same (scalar kind.Byte o) x y e a = refl
-octets_same (scalar kind.Short o) x y e a = refl
-octets_same (scalar kind.Int o) x y e a = refl
-octets_same (scalar kind.Long o) x y e a = refl
-octets_same (scalar kind.Date o) x y e a = refl
-octets_same (scalar kind.Binary o) x y e a = ap Some a
-octets_same (scalar kind.String o) x y e a = contents_same (is_dictionary x.encoding.kind) (is_dictionary y.encoding.kind) x y (ap (λ (k : Encoding). is_dictionary k.kind) e) a
 
 places_same : (s : Shape) (x y : Streams) (before : List Cell) (positions : List ℕ) → x.encoding ≡ y.encoding → x.stream 0 ≡ y.stream 0 → x.stream 1 ≡ y.stream 1 → x.stream 2 ≡ y.stream 2
     → AreWrittenPositions s x before positions → AreWrittenPositions s y before positions
@@ -115,7 +74,7 @@ indexes_written rle stride s rows info bytes h some fit few c lt =
     let t = got h.indexes c many in
     let at : slice c 6 h.footer.streams bytes ≡ t.0 = (λ i. slice c 6 (h.listed i) (h.parts i)) ∙ index_met 0 h.indexes h.lines (h.streams ++ text) c c t.0 t.1 (from_zero c) in
     let cs = cells s c rows in
-    let bounds = bounds_of s c rows (starts stride (length rows)) in
+    let bounds = bounds_of s c rows (starts_of_groups stride (length rows)) in
     let e = column_encoded rle s rows h.streams h.lines h.footer bytes c h.columns lt in
     let f = columns_found rle s rows h.streams text h.lines h.footer h.indexes bytes c h.columns h.listed h.parts lt in
     let is = index_same (shape_at s c) (streams_written w) (columns_of h.footer bytes c) cs bounds t.0 (sym e) (sym f.marks) (sym f.content) (sym f.lengths) (h.are.each c w t.0 (there ws c below) t.1) in (
@@ -156,33 +115,24 @@ written_indexed options s some at c h =
 -- ---- a file that was written
 
 -- its stripes, by its bytes
-written_in_file : (options : Options) (s : Shape) → 0 < options.stride → (file front rest : List ℕ) (at : ℕ) (cs : List WrittenStripe) → AreWrittenStripes options s at cs → at ≡ length front → file ≡ front ++ (bytes_of cs ++ rest)
+written_in_file : (options : Options) (s : Shape) → 0 < options.stride → (file front rest : List ℕ) (at : ℕ) (cs : List WrittenStripe) → AreWrittenStripes options s at cs → at ≡ length front → file ≡ front ++ (written_bytes cs ++ rest)
     → AreEach IsIndexedAsWritten s options.stride (infos_of cs) (map (λ (i : StripeInfo). stripe_bytes i file) (infos_of cs)) (parts_of cs)
 written_in_file options s some file front rest at [] h place e = tt
 written_in_file options s some file front rest at (c ∷ cs) h place e =
     let i = h.0 in
-    let split : file ≡ front ++ (c.bytes ++ (bytes_of cs ++ rest)) = e ∙ ap (λ x. front ++ x) (append_assoc c.bytes (bytes_of cs) rest) in
+    let split : file ≡ front ++ (c.bytes ++ (written_bytes cs ++ rest)) = e ∙ ap (λ x. front ++ x) (append_assoc c.bytes (written_bytes cs) rest) in
     let long : length c.bytes ≡ stripe_length c.info = lemmas.stripe_bytes s c.info c.bytes c.rows i.read in
-    let own : stripe_bytes c.info file ≡ c.bytes = between file front c.bytes (bytes_of cs ++ rest) c.info.offset (stripe_length c.info) split (i.placed ∙ place) (sym long) in (
+    let own : stripe_bytes c.info file ≡ c.bytes = between file front c.bytes (written_bytes cs ++ rest) c.info.offset (stripe_length c.info) split (i.placed ∙ place) (sym long) in (
       subst (λ b. IsIndexedAsWritten s options.stride c.info b c.rows) (sym own) (written_indexed options s some at c i),
-      written_in_file options s some file (front ++ c.bytes) rest (at + length c.bytes) cs h.1 (omega (arith, place, length-append front c.bytes)) (split ∙ sym (append_assoc front c.bytes (bytes_of cs ++ rest))),
+      written_in_file options s some file (front ++ c.bytes) rest (at + length c.bytes) cs h.1 (omega (arith, place, length-append front c.bytes)) (split ∙ sym (append_assoc front c.bytes (written_bytes cs ++ rest))),
     )
-
-cut_written : (options : Options) (s : Shape) (at : ℕ) (cs : List WrittenStripe) → AreWrittenStripes options s at cs → cut_rows (infos_of cs) (rows_of cs) ≡ parts_of cs
-cut_written options s at [] h = refl
-cut_written options s at (c ∷ cs) h =
-    let i = h.0 in
-    let many : length c.rows ≡ c.info.number_of_rows = lemmas.stripe_rows s c.info c.bytes c.rows i.read in
-    let own : take c.info.number_of_rows (c.rows ++ rows_of cs) ≡ c.rows = subst (λ (n : ℕ). take n (c.rows ++ rows_of cs) ≡ c.rows) many (take-append_seam c.rows (rows_of cs)) in
-    let more : drop c.info.number_of_rows (c.rows ++ rows_of cs) ≡ rows_of cs = subst (λ (n : ℕ). drop n (c.rows ++ rows_of cs) ≡ rows_of cs) many (drop-append_seam c.rows (rows_of cs)) in
-    rw (own, more, cut_written options s (at + length c.bytes) cs h.1) refl
 
 pub file_indexed : (options : Options) (s : Shape) (tail : Tail) (bytes : List ℕ) (rows : List Cell) → IsWrittenFile options s tail bytes rows → HasWrittenIndexes bytes tail rows
 file_indexed options s tail bytes rows h =
     let cs : List WrittenStripe = h.stripes_written in
     let cut : cut_rows (infos_of cs) rows ≡ parts_of cs = ap (cut_rows (infos_of cs)) h.rows_are ∙ cut_written options s 3 cs h.are in
     subst (λ (t : Tail). HasWrittenIndexes bytes t rows) (sym h.tail_is) (λ some n lt.
-    let each = written_in_file options s some bytes magic (tail_text tail) 3 cs h.are refl (h.bytes_are ∙ append_assoc magic (bytes_of cs) (tail_text tail)) in
+    let each = written_in_file options s some bytes magic (tail_text tail) 3 cs h.are refl (h.bytes_are ∙ append_assoc magic (written_bytes cs) (tail_text tail)) in
     subst (λ (p : List (List Cell)). IsIndexedAsWritten s options.stride (stripe_at (infos_of cs) n) (stripe_bytes (stripe_at (infos_of cs) n) bytes) (rows_at p n)) (sym cut)
     (at_number IsIndexedAsWritten s options.stride bytes (infos_of cs) (parts_of cs) each n lt))
 

@@ -11,3 +11,5 @@ mod FilesBefore
 mod IndexesAsWritten
 mod OneRunLemmas
 mod SoughtLemmas
+mod PlaceLemmas
+mod WrittenIndexes

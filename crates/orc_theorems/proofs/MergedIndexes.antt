@@ -1,14 +1,14 @@
 -- The row indexes of a merged file are those of its inputs.
 use Rattle.std.proofs.Common.{◌↔◌, ℕ, List, [], ◌∷◌}
 use Rattle.orc_values.specs.Cells.{Cell}
-use Rattle.orc_file.specs.FileRows.{joined, FileIs}
-use Rattle.orc_file.specs.Honest.{Honest}
+use Rattle.orc_file_reader.specs.FileRows.{rows_together, FileIs}
+use Rattle.orc_file_reader.specs.Honest.{Honest}
 use Rattle.orc_tail.specs.declared.tail.Tail.{Tail}
 use Rattle.orc_check.specs.Findings.{Findings, TellsWhole}
 use Rattle.orc_check.specs.RightIndexes.{IsIndexed, HasIndexes}
-use Rattle.orc_check.proofs.WrittenIndexes.{indexed_moved}
+use Rattle.orc_theorems.proofs.WrittenIndexes.{indexed_moved}
 use Rattle.orc_merger.specs.Merging.{IsMerge}
-use Rattle.orc_merger.specs.Grouping.{HaveRows, AreHonestFiles}
+use Rattle.orc_merge_laws.specs.Grouping.{HaveRows, AreHonestFiles}
 use Rattle.orc_theorems.specs.Inputs.{AreWithoutFinding}
 use Rattle.orc_theorems.proofs.MergedStripes.{HoldsOfFiles, merged_stripes}
 
@@ -22,7 +22,7 @@ are_indexed none [] (r ∷ parts) h = absurd h
 are_indexed none (x ∷ xs) [] h = absurd h
 are_indexed none (x ∷ xs) (r ∷ parts) h = let right = (none x h.0.0 r h.0.1).0 h.0.2 in ((h.0.0, h.0.1, right.2), are_indexed none xs parts h.1)
 
-pub merged_indexes : NoneLaw → (xs : List (List ℕ)) (tail : Tail) (out : List ℕ) (parts : List (List Cell)) → IsMerge xs tail out → AreWithoutFinding xs parts → HasIndexes out tail (joined parts)
+pub merged_indexes : NoneLaw → (xs : List (List ℕ)) (tail : Tail) (out : List ℕ) (parts : List (List Cell)) → IsMerge xs tail out → AreWithoutFinding xs parts → HasIndexes out tail (rows_together parts)
 merged_indexes none xs tail out parts m h = merged_stripes IsIndexed indexed_moved xs tail out parts m (are_indexed none xs parts h)
 
 -- ---- what the inputs are besides

@@ -5,18 +5,18 @@ use Rattle.std.proofs.lemmas.List.Concat.{flat_map-cons}
 use Rattle.orc_wire.specs.declared.stripe_info.StripeInfo.{StripeInfo}
 use Rattle.orc_values.specs.Cells.{Cell}
 use Rattle.orc_values.specs.Shapes.{Shape}
-use Rattle.orc_tail.specs.Stripes.{stripe_at, stripe_length}
-use Rattle.orc_file.specs.FileRows.{stripe_bytes, joined, HasRows, FileIs, cut_rows}
+use Rattle.orc_tail.specs.Stripes.{stripe_at, stripe_length, stripe_bytes}
+use Rattle.orc_file_reader.specs.FileRows.{rows_together, HasRows, FileIs, cut_rows}
 use Rattle.orc_tail.specs.Tails.{tail_tests}
 use Rattle.orc_tail.specs.Images.{image}
 use Rattle.orc_tail.specs.declared.tail.Tail.{Tail}
-use Rattle.orc_file.proofs.RowLemmas.{parts_cut}
+use Rattle.orc_file_reader.proofs.RowLemmas.{parts_cut}
 use Rattle.orc_check.specs.Findings.{rows_at}
 use Rattle.orc_check.proofs.NoFinding.{cut_many}
 use Rattle.orc_merger.specs.Merging.{placed, all_stripes, merged, IsLike, stripes_of, AreOpened, bodies, IsMerge}
-use Rattle.orc_merger.specs.Grouping.{HaveRows}
-use Rattle.orc_merger.proofs.Rows.{AreStripes, of_file, stripes-append, joined-append, accepted, image_stripes}
-use Rattle.orc_merger.proofs.Standing.{stripes_of_image}
+use Rattle.orc_merge_laws.specs.Grouping.{HaveRows}
+use Rattle.orc_merge_laws.proofs.Rows.{AreStripes, of_file, stripes-append, joined-append, accepted, image_stripes}
+use Rattle.orc_merge_laws.proofs.Standing.{stripes_of_image}
 
 -- ---- what is said of stripes
 
@@ -95,7 +95,7 @@ record EachPart (Is : OfStripe) (s : Shape) (stride : ℕ) (is : List StripeInfo
   parts : List (List Cell)
   stripes : AreStripes s is bs parts
   are : AreEach Is s stride is bs parts
-  rows_are : all ≡ joined parts
+  rows_are : all ≡ rows_together parts
 
 own_parts : (Is : OfStripe) (t : Tail) (bytes : List ℕ) (r : List Cell) → 0 < t.stride → FileIs bytes t r → HoldsOfFile Is bytes t r → EachPart Is t.schema t.stride t.stripes (stripes_of bytes t) r
 own_parts Is t bytes r some is has =
@@ -110,7 +110,7 @@ own_parts Is t bytes r some is has =
     }
 
 all_parts : (Is : OfStripe) (first : Tail) (xs : List (List ℕ)) (ts : List Tail) (parts : List (List Cell)) → 0 < first.stride → AreOpened xs ts → AllByRecursion (IsLike first) ts → HoldsOfFiles Is xs parts
-    → EachPart Is first.schema first.stride (all_stripes ts) (bodies xs ts) (joined parts)
+    → EachPart Is first.schema first.stride (all_stripes ts) (bodies xs ts) (rows_together parts)
 all_parts Is first [] [] [] some o a h = record { parts = []; stripes = tt; are = tt; rows_are = refl }
 all_parts Is first [] [] (r ∷ parts) some o a h = absurd h
 all_parts Is first [] (t ∷ ts) parts some o a h = absurd o
@@ -128,14 +128,14 @@ all_parts Is first (x ∷ xs) (t ∷ ts) (r ∷ parts) some o a h =
       parts = here.parts ++ rest.parts;
       stripes = stripes-append first.schema t.stripes (all_stripes ts) (stripes_of x t) (bodies xs ts) here.parts rest.parts here.stripes rest.stripes;
       are = each-append Is first.schema first.stride t.stripes (all_stripes ts) (stripes_of x t) (bodies xs ts) here.parts rest.parts here.are rest.are;
-      rows_are = flat_map-cons (λ (p : List Cell). p) r parts ∙ ap (λ (z : List Cell). z ++ joined parts) here.rows_are ∙ ap (λ (z : List Cell). joined here.parts ++ z) rest.rows_are
+      rows_are = flat_map-cons (λ (p : List Cell). p) r parts ∙ ap (λ (z : List Cell). z ++ rows_together parts) here.rows_are ∙ ap (λ (z : List Cell). rows_together here.parts ++ z) rest.rows_are
           ∙ sym (joined-append here.parts rest.parts);
     }
 
 -- ---- the merged file
 
 pub merged_stripes : (Is : OfStripe) → Moves Is → (xs : List (List ℕ)) (tail : Tail) (out : List ℕ) (parts : List (List Cell)) → IsMerge xs tail out → HoldsOfFiles Is xs parts
-    → HoldsOfFile Is out tail (joined parts)
+    → HoldsOfFile Is out tail (rows_together parts)
 merged_stripes Is moved xs tail out parts m h =
     let l = accepted xs tail out m in
     let ts : List Tail = l.first ∷ l.rest in
@@ -143,12 +143,12 @@ merged_stripes Is moved xs tail out parts m h =
     let stride : ℕ = l.first.stride in
     let file : List ℕ = image (concat (bodies xs (l.first ∷ l.rest))) (merged l.first (l.first ∷ l.rest)) in
     let infos : List StripeInfo = placed 3 (all_stripes (l.first ∷ l.rest)) in
-    let there : HoldsOfFile Is file (merged l.first (l.first ∷ l.rest)) (joined parts) = (λ some n lt.
+    let there : HoldsOfFile Is file (merged l.first (l.first ∷ l.rest)) (rows_together parts) = (λ some n lt.
     let p = all_parts Is l.first xs (l.first ∷ l.rest) parts some l.opened l.can.alike h in
-    let has : HasRows s file infos (joined parts) = record { parts = p.parts; stripes = image_stripes xs l.first l.rest p.parts l.opened p.stripes; rows_are = p.rows_are } in
-    let cut : cut_rows infos (joined parts) ≡ p.parts = parts_cut s file infos (joined parts) has in
+    let has : HasRows s file infos (rows_together parts) = record { parts = p.parts; stripes = image_stripes xs l.first l.rest p.parts l.opened p.stripes; rows_are = p.rows_are } in
+    let cut : cut_rows infos (rows_together parts) ≡ p.parts = parts_cut s file infos (rows_together parts) has in
     let in_file : AreEach Is s stride infos (map (λ (i : StripeInfo). stripe_bytes i file) infos) p.parts =
     subst (λ (b : List (List ℕ)). AreEach Is s stride infos b p.parts) (sym (stripes_of_image xs l.first l.rest l.opened))
     (each_placed Is moved s stride 3 (all_stripes (l.first ∷ l.rest)) (bodies xs (l.first ∷ l.rest)) p.parts p.are) in
     subst (λ (q : List (List Cell)). Is s stride (stripe_at infos n) (stripe_bytes (stripe_at infos n) file) (rows_at q n)) (sym cut) (at_number Is s stride file infos p.parts in_file n lt)) in
-    subst (λ (x : List ℕ). HoldsOfFile Is x tail (joined parts)) (sym l.out_is) (subst (λ (u : Tail). HoldsOfFile Is file u (joined parts)) (sym l.tail_is) there)
+    subst (λ (x : List ℕ). HoldsOfFile Is x tail (rows_together parts)) (sym l.out_is) (subst (λ (u : Tail). HoldsOfFile Is file u (rows_together parts)) (sym l.tail_is) there)

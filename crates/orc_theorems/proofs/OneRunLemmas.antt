@@ -4,11 +4,11 @@ use Rattle.std.proofs.lemmas.List.{take-append-drop, length-map}
 use Rattle.orc_rle.specs.ByteRun.{IsByteRun}
 use Rattle.orc_rle.specs.Seeking.{bytes_needed}
 use Rattle.orc_positions.specs.Position.{IsWriterPosition, IsOneRun}
-use Rattle.orc_positions.specs.BitPosition.{IsWriterBitPosition, HasBits}
+use Rattle.orc_positions.specs.BitPosition.{IsWriterBitPosition, HasBooleans}
 use Rattle.orc_positions.proofs.PositionLemmas.{place_run}
 use Rattle.orc_positions.proofs.BitPositionLemmas.{bit_place_run}
 use Rattle.orc_wire.specs.Messages.{row_index}
-use Rattle.orc_wire.specs.SpellsLaws.{one_spelled}
+use Rattle.orc_wire.specs.laws.SpellsLaws.{one_spelled}
 use Rattle.orc_wire.specs.declared.row_index.RowIndexMsg.{RowIndexMsg}
 use Rattle.orc_wire.specs.declared.stripe_footer.StripeFooter.{StripeFooter}
 use Rattle.orc_wire.specs.declared.stripe_info.StripeInfo.{StripeInfo}
@@ -18,17 +18,18 @@ use Rattle.orc_values.specs.Shapes.{Shape, scalar, list_of, map_of, struct_of, s
 use Rattle.orc_values.specs.declared.kind.Scalar.{Scalar}
 use Rattle.orc_values.specs.declared.kind.Scalar.TheVariants as kind
 use Rattle.orc_column_reader.specs.Columns.{IsBool}
-use Rattle.orc_column_reader.specs.Directory.{slice}
+use Rattle.orc_directory.specs.Directory.{slice}
 use Rattle.orc_column_reader.specs.Numbers.{is_run}
 use Rattle.orc_column_reader.specs.Stripe.{Streams, has_dictionary, Marks, SpellsScalar, SpellsValues, IsColumn, columns_of, IsStripe}
-use Rattle.orc_row_index.specs.Bounds.{bound_at, before_group}
+use Rattle.orc_row_groups.specs.Bounds.{bound_at, before_group}
 use Rattle.orc_row_index.specs.Positions.{IsPosition, writer, AreWrittenPositions}
 use Rattle.orc_row_index.specs.RunStreams.{RunStream, no_stream, bit_runs, byte_runs, number_runs, present_runs, text_runs, scalar_runs, value_runs}
-use Rattle.orc_row_index.proofs.ColumnPlaces.{values_more, stand_long}
-use Rattle.orc_stripe.proofs.OneStripe.{one_footer, by_footer}
-use Rattle.orc_stripe_writer.specs.Groups.{starts, bounds_of}
-use Rattle.orc_tail.specs.Stripes.{stripe_at}
-use Rattle.orc_file.specs.FileRows.{stripe_bytes, FileIs, cut_rows}
+use Rattle.orc_row_index.proofs.ColumnPlaces.{stand_long}
+use Rattle.orc_row_groups.proofs.Counted.{values_more}
+use Rattle.orc_stripe_reader.proofs.OneStripe.{one_footer, by_footer}
+use Rattle.orc_row_groups.specs.Groups.{starts_of_groups, bounds_of}
+use Rattle.orc_tail.specs.Stripes.{stripe_at, stripe_bytes}
+use Rattle.orc_file_reader.specs.FileRows.{FileIs, cut_rows}
 use Rattle.orc_tail.specs.declared.tail.Tail.{Tail}
 use Rattle.orc_check.specs.Findings.{rows_at}
 use Rattle.orc_check.proofs.NoFinding.{stripe_is}
@@ -44,7 +45,7 @@ counts_one R bytes offset need old new (inr run) k = k.one_run run.0 run.1 run.2
 place_one : {A : Type 0} (R : List ℕ → List A → Type 0) (bytes : List ℕ) (offset skip n : ℕ) → IsWriterPosition R bytes offset skip n → NeedsOneRun R bytes offset skip n
 place_one R bytes offset skip n h = record { place = h; one_run = λ old new k. counts_one R bytes offset skip old new (place_run R bytes offset skip h.inside) k }
 
-bit_place_one : (bytes : List ℕ) (total offset skip bits n : ℕ) → HasBits bytes total → n ≤ total → IsWriterBitPosition bytes n offset skip bits n → NeedsOneBitRun bytes offset skip bits n
+bit_place_one : (bytes : List ℕ) (total offset skip bits n : ℕ) → HasBooleans bytes total → n ≤ total → IsWriterBitPosition bytes n offset skip bits n → NeedsOneBitRun bytes offset skip bits n
 bit_place_one bytes total offset skip bits n has le h =
     let there : IsWriterBitPosition bytes total offset skip bits n = record { place = h.place; bits_are = h.bits_are; there = le } in
     record {
@@ -59,7 +60,7 @@ bit_place_one bytes total offset skip bits n has le h =
 -- a stream of booleans has as many
 abbrev HasSome : RunStream → ℕ → Type 0
 HasSome no_stream n = Unit {0}
-HasSome (bit_runs b) n = (total : ℕ) × HasBits b total × (n ≤ total)
+HasSome (bit_runs b) n = (total : ℕ) × HasBooleans b total × (n ≤ total)
 HasSome (byte_runs b) n = Unit {0}
 HasSome (number_runs v sign b) n = Unit {0}
 
@@ -122,7 +123,7 @@ file_reads_one bytes tail rows is has = λ some n lt footer opens c below messag
     let same : message ≡ record { entries = x.entries } = one_spelled row_index 0 0 (slice c 6 footer.streams own) message (record { entries = x.entries }) index.1 x.spelled in
     let there : slice_get x.entries g ≡ Some entry = ap (λ (m : RowIndexMsg). slice_get m.entries g) (sym same) ∙ at in
     let cs : List Cell = cells s c mine in
-    let bounds : List ℕ = bounds_of s c mine (starts tail.stride (length mine)) in
+    let bounds : List ℕ = bounds_of s c mine (starts_of_groups tail.stride (length mine)) in
     let k : ℕ = bound_at (length cs) bounds g in
     column_one (shape_at s c) (columns_of footer own c) cs (before_group cs bounds g) (drop k cs) entry.positions (sym (take-append-drop k cs))
     ((by_footer s info own footer mine opens stripe).column c below) (x.are.each g entry there).positions

@@ -3,9 +3,9 @@ use Rattle.std.proofs.Common.{◌≡◌, ◌∙◌, ℕ, zero, suc, ◌+◌, ◌
 use Rattle.std.proofs.lemmas.List.{drop_more}
 use Rattle.orc_values.specs.Cells.{Cell}
 use Rattle.orc_values.specs.Shapes.{Shape}
-use Rattle.orc_stripe_writer.specs.declared.options.Options.{Options}
-use Rattle.orc_file.specs.FileRows.{FileIs}
-use Rattle.orc_file.specs.Writing.{IsWhole, IsSomeFile, IsCutOff}
+use Rattle.orc_row_batch.specs.declared.options.Options.{Options}
+use Rattle.orc_file_reader.specs.FileRows.{FileIs}
+use Rattle.orc_file_writer.specs.Writing.{WroteWholeFile, IsSomeFile, IsCutOff}
 use Rattle.orc_tail.specs.declared.tail.Tail.{Tail}
 use Rattle.orc_check.specs.Findings.{Findings}
 use Rattle.orc_check.specs.declared.finding.Finding.{Finding}
@@ -57,29 +57,29 @@ cut_of_all {X} view options o schema s first told before done rows i row of_opti
 -- what the theorem says of reading and of checking
 abbrev pub ReadLaw : Type 0
 ReadLaw = (options : Options) (schema : Shape) (tail : Tail) (first told : Option (List ℕ)) (rows : List Cell) (opened : Tail) (found : List Cell)
-    → (wrote : IsWhole options schema tail first told rows) → FileIs wrote.bytes opened found → (opened ≡ tail) × (found ≡ rows)
+    → (wrote : WroteWholeFile options schema tail first told rows) → FileIs wrote.bytes opened found → (opened ≡ tail) × (found ≡ rows)
 
 abbrev pub CheckedLaw : Type 0
 CheckedLaw = (options : Options) (schema : Shape) (tail : Tail) (first told : Option (List ℕ)) (rows : List Cell) (found : List Finding)
-    → (wrote : IsWhole options schema tail first told rows) → Findings wrote.bytes tail rows found → found ≡ []
+    → (wrote : WroteWholeFile options schema tail first told rows) → Findings wrote.bytes tail rows found → found ≡ []
 
 -- where these are the bytes of what was written, their rows are those that were written
 pub read_back : ReadLaw → (options : Options) (schema : Shape) (tail : Tail) (bytes there : List ℕ) (rows : List Cell) (opened : Tail) (found : List Cell)
-    → IsWhole options schema tail (Some []) (Some bytes) rows → there ≡ bytes → FileIs there opened found → (opened ≡ tail) × (found ≡ rows)
+    → WroteWholeFile options schema tail (Some []) (Some bytes) rows → there ≡ bytes → FileIs there opened found → (opened ≡ tail) × (found ≡ rows)
 read_back read options schema tail bytes there rows opened found wrote same is =
     let mine : wrote.bytes ≡ bytes = bytes_are (Some []) (Some bytes) bytes wrote.bytes refl refl wrote.told_is in
     read options schema tail (Some []) (Some bytes) rows opened found wrote (subst (λ (b : List ℕ). FileIs b opened found) (same ∙ sym mine) is)
 
 -- they are a file with the tail that was answered
 pub file_back : ReadLaw → (options : Options) (schema : Shape) (tail : Tail) (bytes there : List ℕ) (rows : List Cell) (opened : Tail) (found : List Cell)
-    → IsWhole options schema tail (Some []) (Some bytes) rows → there ≡ bytes → FileIs there opened found → FileIs bytes tail found
+    → WroteWholeFile options schema tail (Some []) (Some bytes) rows → there ≡ bytes → FileIs there opened found → FileIs bytes tail found
 file_back read options schema tail bytes there rows opened found wrote same is =
     let back = read_back read options schema tail bytes there rows opened found wrote same is in
     subst (λ (t : Tail). FileIs bytes t found) back.0 (subst (λ (b : List ℕ). FileIs b opened found) same is)
 
 -- and nothing is found of them
 pub nothing_back : ReadLaw → CheckedLaw → (options : Options) (schema : Shape) (tail : Tail) (bytes there : List ℕ) (rows : List Cell) (found : List Finding)
-    → IsWhole options schema tail (Some []) (Some bytes) rows → there ≡ bytes → AreFound there found → found ≡ []
+    → WroteWholeFile options schema tail (Some []) (Some bytes) rows → there ≡ bytes → AreFound there found → found ≡ []
 nothing_back read checked options schema tail bytes there rows found wrote same h =
     let mine : wrote.bytes ≡ bytes = bytes_are (Some []) (Some bytes) bytes wrote.bytes refl refl wrote.told_is in
     let back = read_back read options schema tail bytes there rows h.0 h.1 wrote same h.2 in

@@ -10,17 +10,18 @@ use Rattle.orc_values.specs.Cells.{Cell, values}
 use Rattle.orc_values.specs.Columns.{cells}
 use Rattle.orc_values.specs.Shapes.{Shape, width, shape_at}
 use Rattle.orc_column_reader.specs.Stripe.{Streams, HasFooter, columns_of}
-use Rattle.orc_row_index.specs.Bounds.{before_group}
-use Rattle.orc_row_index.specs.Positions.{RunPosition, BitsPosition, IsPosition, ArePositions, position_size, octets, octets_position, reader}
+use Rattle.orc_row_groups.specs.Bounds.{before_group}
+use Rattle.orc_row_index.specs.Positions.{RunPosition, BitsPosition, IsPosition, ArePositions, position_size, octets_position, reader}
+use Rattle.orc_row_groups.specs.Counts.{octets}
 use Rattle.orc_row_index.specs.RunStreams.{RunStream, no_stream, bit_runs, byte_runs, number_runs, present_runs, value_runs, value_bytes}
 use Rattle.orc_row_index.specs.Walking.{runs, lent_bytes, ArePlaced}
 use Rattle.orc_row_index.specs.declared.placed.PlacedStreams.{PlacedStreams}
 use Rattle.orc_row_index.proofs.PositionParts.{front_is, back_is}
-use Rattle.orc_stripe_writer.specs.Groups.{starts, bounds_of}
-use Rattle.orc_stripe.specs.Opened.{Opened}
-use Rattle.orc_stripe.specs.RowIndexes.{HasIndex}
-use Rattle.orc_tail.specs.Stripes.{stripe_at}
-use Rattle.orc_file.specs.FileRows.{stripe_bytes, opened_stripe, cut_rows}
+use Rattle.orc_row_groups.specs.Groups.{starts_of_groups, bounds_of}
+use Rattle.orc_stripe_reader.specs.Opened.{Opened}
+use Rattle.orc_stripe_reader.specs.RowIndexes.{HasIndex}
+use Rattle.orc_tail.specs.Stripes.{stripe_at, stripe_bytes}
+use Rattle.orc_file_reader.specs.FileRows.{opened_stripe, cut_rows}
 use Rattle.orc_tail.specs.declared.tail.Tail.{Tail}
 use Rattle.orc_check.specs.Findings.{rows_at}
 use Rattle.orc_theorems.specs.OneRunPositions.{SeekCounts, NeedsOneRun, NeedsOneBitRun, IsOneRunPosition, AreOneRunPositions, ColumnReadsOneRun, ReadsOneRun}
@@ -87,10 +88,10 @@ column_sought s x before placed ps size first last are h e f l =
 -- the positions of its entry, as they are read
 pub entry_reads : (view : Opened) (rows : List Cell) (c g : ℕ) (message : RowIndexMsg) (entries : List RowIndexEntry) (entry : RowIndexEntry) (positions : List ℕ) → ColumnReadsOneRun view rows c
     → HasIndex view.footer view.bytes c message → entries ≡ message.entries → g < length entries → entry ≡ get_or entries g entry → positions ≡ entry.positions
-    → AreOneRunPositions (shape_at view.schema c) (columns_of view.footer view.bytes c) (before_group (cells view.schema c rows) (bounds_of view.schema c rows (starts view.stride (length rows))) g) positions
+    → AreOneRunPositions (shape_at view.schema c) (columns_of view.footer view.bytes c) (before_group (cells view.schema c rows) (bounds_of view.schema c rows (starts_of_groups view.stride (length rows))) g) positions
 entry_reads view rows c g message entries entry positions reads has same lt is at =
     let there : slice_get message.entries g ≡ Some entry = ap (λ (es : List RowIndexEntry). slice_get es g) (sym same) ∙ slice_get_read entries (length entries) g entry refl lt is in
-    subst (λ (ps : List ℕ). AreOneRunPositions (shape_at view.schema c) (columns_of view.footer view.bytes c) (before_group (cells view.schema c rows) (bounds_of view.schema c rows (starts view.stride (length rows))) g) ps)
+    subst (λ (ps : List ℕ). AreOneRunPositions (shape_at view.schema c) (columns_of view.footer view.bytes c) (before_group (cells view.schema c rows) (bounds_of view.schema c rows (starts_of_groups view.stride (length rows))) g) ps)
     (sym at) (reads message has g entry there)
 
 -- ---- a stripe of a file, as it is opened

@@ -7,12 +7,12 @@ use Rattle.orc_merger.specs.declared.fault.MergeFault.{MergeFault}
 use Rattle.orc_merger.specs.declared.fault.MergeFault.TheVariants.{NoInput, File, SchemaDiffers, VersionDiffers, StrideDiffers, OtherFooterFields}
 use Rattle.orc_merger.specs.declared.fault.MergeFault.TheVariants.{UserMetadataConflict, NoStripeStatistics, Limit, SourceFailed, WriteFailed, OutOfMemory}
 use Rattle.orc_merger.specs.Merging.{Merged, AreOpened, IsMerge}
-use Rattle.orc_merger.specs.Faults.{IsRefused, IsDeviceFault}
+use Rattle.orc_merger.specs.Faults.{IsMergeRefused, IsDeviceFault}
 use Rattle.orc_merger.specs.Outcomes.{WroteMerge, IsAnswer}
-use Rattle.orc_merger.specs.Grouping.{Groups, input, merge, one, and, all_leaves, Gives, AllGive, AllShort, Wrote, AllWrote, ComesOfJoining, AreFellows, IsFlatRefused, IsStepRefused}
-use Rattle.orc_merger.proofs.OneFault.{one_merge}
-use Rattle.orc_merger.proofs.Refusing.{no_fault}
-use Rattle.orc_theorems.specs.Groupings.{pair, at_once, first_two, last_two, Gave, IsStepAnswer}
+use Rattle.orc_merge_laws.specs.Grouping.{Groups, input, merge, one, and, all_leaves, Gives, AllGive, AllShort, Wrote, AllWrote, ComesOfJoining, AreFellows, IsFlatRefused, IsStepRefused}
+use Rattle.orc_merge_laws.proofs.OneFault.{one_merge}
+use Rattle.orc_merge_laws.proofs.Refusing.{no_fault}
+use Rattle.orc_theorems.specs.Groupings.{pair, at_once, first_two, last_two, MergedTo, IsStepAnswer}
 use Rattle.orc_theorems.proofs.Told.{bytes_are}
 
 -- what the theorem says of the last merge of a grouping
@@ -106,7 +106,7 @@ wrote_last_two a b c back out t u v w =
 -- ---- steps that are refused
 
 -- what comes of joining is no device's fault, so the inputs are refused for it
-pub is_refused : (files : List (List ℕ)) (e : MergeFault) → ComesOfJoining e → IsAnswer files e → IsRefused files e
+pub is_refused : (files : List (List ℕ)) (e : MergeFault) → ComesOfJoining e → IsAnswer files e → IsMergeRefused files e
 is_refused files e joins (inr r) = r
 is_refused files NoInput joins (inl d) = absurd joins
 is_refused files (File i f) joins (inl d) = absurd joins
@@ -131,7 +131,7 @@ merge_of_pair : (a b out : List ℕ) (g : Gives (pair a b) out) → IsMerge (a �
 merge_of_pair a b out g = subst (λ (files : List (List ℕ)). IsMerge files g.1 out) (inputs_are a b g.0 g.2) g.3
 
 -- a pair that is refused gives nothing
-pub short_refused : (a b c : List ℕ) (e : MergeFault) → IsRefused (a ∷ b ∷ []) e → AllShort (and (pair a b) (one (input c)))
+pub short_refused : (a b c : List ℕ) (e : MergeFault) → IsMergeRefused (a ∷ b ∷ []) e → AllShort (and (pair a b) (one (input c)))
 short_refused a b c e r =
     ((λ out g. absurd (no_fault (a ∷ b ∷ []) g.1 out e (merge_of_pair a b out g) r), (tt, tt)), tt)
 
@@ -146,11 +146,11 @@ short_wrote a b c front t w =
       tt,
     )
 
-pub step_refused : (a b c : List ℕ) (e : MergeFault) → ComesOfJoining e → IsRefused (a ∷ b ∷ []) e → IsStepRefused (and (pair a b) (one (input c)))
+pub step_refused : (a b c : List ℕ) (e : MergeFault) → ComesOfJoining e → IsMergeRefused (a ∷ b ∷ []) e → IsStepRefused (and (pair a b) (one (input c)))
 step_refused a b c e joins r = (e, joins, inl (inl (inr (a ∷ b ∷ [], (a, b ∷ [], refl, (b, refl, refl), refl), r))))
 
 pub last_refused : (a b c front : List ℕ) (t : Tail) (e : MergeFault) → WroteMerge (a ∷ b ∷ []) t (Some []) (Some front) → ComesOfJoining e
-    → IsRefused (front ∷ c ∷ []) e → IsStepRefused (and (pair a b) (one (input c)))
+    → IsMergeRefused (front ∷ c ∷ []) e → IsStepRefused (and (pair a b) (one (input c)))
 last_refused a b c front t e w joins r =
     let m = merge_of (a ∷ b ∷ []) t front w in
     let gave : Gives (pair a b) front = (a ∷ b ∷ [], t, (a, b ∷ [], refl, (b, refl, refl), refl), m.0) in
@@ -163,14 +163,14 @@ abbrev pub RefusedLaw : Type 0
 RefusedLaw = (groups : Groups) → AllShort groups → AreFellows (all_leaves groups) → IsFlatRefused groups ↔ IsStepRefused groups
 
 pub first_refuses : RefusedLaw → (a b c : List ℕ) (e : MergeFault) → IsAnswer (a ∷ b ∷ []) e → ComesOfJoining e → AreFellows (a ∷ b ∷ c ∷ [])
-    → (fault : MergeFault) × ComesOfJoining fault × IsRefused (a ∷ b ∷ c ∷ []) fault
+    → (fault : MergeFault) × ComesOfJoining fault × IsMergeRefused (a ∷ b ∷ c ∷ []) fault
 first_refuses law a b c e answer joins fellows =
     let r = is_refused (a ∷ b ∷ []) e joins answer in
     (law (and (pair a b) (one (input c))) (short_refused a b c e r) fellows).1 (step_refused a b c e joins r)
 
 pub last_refuses : RefusedLaw → (a b c front there : List ℕ) (t : Tail) (e : MergeFault) → WroteMerge (a ∷ b ∷ []) t (Some []) (Some front) → there ≡ front
     → IsAnswer (there ∷ c ∷ []) e → ComesOfJoining e → AreFellows (a ∷ b ∷ c ∷ [])
-    → (fault : MergeFault) × ComesOfJoining fault × IsRefused (a ∷ b ∷ c ∷ []) fault
+    → (fault : MergeFault) × ComesOfJoining fault × IsMergeRefused (a ∷ b ∷ c ∷ []) fault
 last_refuses law a b c front there t e w same answer joins fellows =
     let r = is_refused (front ∷ c ∷ []) e joins (subst (λ (x : List ℕ). IsAnswer (x ∷ c ∷ []) e) same answer) in
     (law (and (pair a b) (one (input c))) (short_wrote a b c front t w) fellows).1 (last_refused a b c front t e w joins r)
@@ -251,7 +251,7 @@ pub first_last_step : (a b c front there : List ℕ) (t : Tail) (e : MergeFault)
     → IsStepAnswer (first_two a b c) e
 first_last_step a b c front there t e w same (inl d) = inl d
 first_last_step a b c front there t e w same (inr r) =
-    let refused = subst (λ (x : List ℕ). IsRefused (x ∷ c ∷ []) e) same r in
+    let refused = subst (λ (x : List ℕ). IsMergeRefused (x ∷ c ∷ []) e) same r in
     inr (inr (front ∷ c ∷ [], (front, c ∷ [], gave_pair a b front t w, (c, refl, refl), refl), refused))
 
 pub last_step : (a b c : List ℕ) (e : MergeFault) → IsAnswer (b ∷ c ∷ []) e → IsStepAnswer (last_two a b c) e
@@ -262,7 +262,7 @@ pub last_last_step : (a b c back there : List ℕ) (t : Tail) (e : MergeFault) �
     → IsStepAnswer (last_two a b c) e
 last_last_step a b c back there t e w same (inl d) = inl d
 last_last_step a b c back there t e w same (inr r) =
-    let refused = subst (λ (x : List ℕ). IsRefused (a ∷ x ∷ []) e) same r in
+    let refused = subst (λ (x : List ℕ). IsMergeRefused (a ∷ x ∷ []) e) same r in
     inr (inr (a ∷ back ∷ [], (a, back ∷ [], refl, (back, gave_pair b c back t w, refl), refl), refused))
 
 pub only_step : (a b c : List ℕ) (e : MergeFault) → IsAnswer (a ∷ b ∷ c ∷ []) e → IsStepAnswer (at_once a b c) e
@@ -270,5 +270,5 @@ only_step a b c e (inl d) = inl d
 only_step a b c e (inr r) = inr (inr (a ∷ b ∷ c ∷ [], (a, b ∷ c ∷ [], refl, (b, c ∷ [], refl, (c, refl, refl), refl), refl), r))
 
 -- what a merge into a vector gave
-pub gave_vector : (files : List (List ℕ)) (tail : Tail) (old new : Option (List ℕ)) (out : List ℕ) → old ≡ Some [] → new ≡ Some out → WroteMerge files tail old new → Gave files out
+pub gave_vector : (files : List (List ℕ)) (tail : Tail) (old new : Option (List ℕ)) (out : List ℕ) → old ≡ Some [] → new ≡ Some out → WroteMerge files tail old new → MergedTo files out
 gave_vector files tail old new out empty is w = (tail, (merge_of files tail out (into_vector files tail old new out empty is w)).0)

@@ -6,16 +6,16 @@ use Rattle.orc_wire.specs.declared.stripe_footer.StripeFooter.{StripeFooter}
 use Rattle.orc_wire.specs.declared.stripe_info.StripeInfo.{StripeInfo}
 use Rattle.orc_wire.specs.StreamKinds.{PRESENT, DATA, LENGTH}
 use Rattle.orc_values.specs.Shapes.{Shape, width, shape_at}
-use Rattle.orc_column_reader.specs.Directory.{slice}
+use Rattle.orc_directory.specs.Directory.{slice}
 use Rattle.orc_column_reader.specs.Stripe.{Streams, HasFooter, has_dictionary, columns_of}
 use Rattle.orc_row_index.specs.Positions.{octets_size}
 use Rattle.orc_row_index.specs.RunStreams.{value_bytes}
 use Rattle.orc_group_reader.specs.Entering.{AgreeFrom}
 use Rattle.orc_group_reader.specs.Refusals.{present_size}
-use Rattle.orc_stripe.specs.Opened.{Opened}
-use Rattle.orc_stripe.specs.GroupCursors.{IsGroupEntry}
-use Rattle.orc_tail.specs.Stripes.{stripe_at}
-use Rattle.orc_file.specs.FileRows.{stripe_bytes, opened_stripe}
+use Rattle.orc_stripe_reader.specs.Opened.{Opened}
+use Rattle.orc_stripe_reader.specs.GroupCursors.{IsGroupEntry}
+use Rattle.orc_tail.specs.Stripes.{stripe_at, stripe_bytes}
+use Rattle.orc_file_reader.specs.FileRows.{opened_stripe}
 use Rattle.orc_tail.specs.declared.tail.Tail.{Tail}
 
 -- The offset that a column's positions record for its stream of a kind. Those of PRESENT come first, then those of

@@ -4,7 +4,7 @@ use Rattle.orc_tail.specs.declared.tail.Tail.{Tail}
 use Rattle.orc_merger.specs.declared.fault.MergeFault.{MergeFault}
 use Rattle.orc_merger.specs.Merging.{IsMerge}
 use Rattle.orc_merger.specs.Faults.{IsDeviceFault}
-use Rattle.orc_merger.specs.Grouping.{Group, input, merge, one, and, StepRefused}
+use Rattle.orc_merge_laws.specs.Grouping.{Group, input, merge, one, and, StepRefused}
 
 -- two files
 abbrev pub pair : List ℕ → List ℕ → Group
@@ -27,5 +27,5 @@ abbrev pub IsStepAnswer : Group → MergeFault → Type 0
 IsStepAnswer group fault = IsDeviceFault fault ⊎ StepRefused group fault
 
 -- files have this merged file
-abbrev pub Gave : List (List ℕ) → List ℕ → Type 0
-Gave files out = (tail : Tail) × IsMerge files tail out
+abbrev pub MergedTo : List (List ℕ) → List ℕ → Type 0
+MergedTo files out = (tail : Tail) × IsMerge files tail out

@@ -4,3 +4,4 @@ pub mod BeforeGroups
 pub mod WrittenIndexes
 pub mod OneRunPositions
 pub mod RunsRead
+pub mod Places

@@ -3,7 +3,7 @@ use Rattle.std.specs.Prelude.{◌≡◌, ℕ, ◌+◌, ◌<◌, ◌≤◌, Some,
 use Rattle.orc_rle.specs.ByteRun.{IsByteRun}
 use Rattle.orc_rle.specs.Seeking.{bytes_needed}
 use Rattle.orc_positions.specs.Position.{IsWriterPosition}
-use Rattle.orc_positions.specs.BitPosition.{IsWriterBitPosition, HasBits}
+use Rattle.orc_positions.specs.BitPosition.{IsWriterBitPosition, HasBooleans}
 use Rattle.orc_wire.specs.declared.row_index.RowIndexEntry.{RowIndexEntry}
 use Rattle.orc_wire.specs.declared.row_index.RowIndexMsg.{RowIndexMsg}
 use Rattle.orc_wire.specs.declared.stripe_footer.StripeFooter.{StripeFooter}
@@ -12,14 +12,15 @@ use Rattle.orc_values.specs.Columns.{cells}
 use Rattle.orc_values.specs.Shapes.{Shape, width, shape_at}
 use Rattle.orc_column_reader.specs.Numbers.{is_run}
 use Rattle.orc_column_reader.specs.Stripe.{Streams, HasFooter, columns_of, in_present}
-use Rattle.orc_row_index.specs.Bounds.{before_group}
-use Rattle.orc_row_index.specs.Positions.{RunPosition, BitsPosition, octets, octets_position}
+use Rattle.orc_row_groups.specs.Bounds.{before_group}
+use Rattle.orc_row_index.specs.Positions.{RunPosition, BitsPosition, octets_position}
+use Rattle.orc_row_groups.specs.Counts.{octets}
 use Rattle.orc_row_index.specs.RunStreams.{RunStream, no_stream, bit_runs, byte_runs, number_runs, present_runs, value_runs, value_bytes}
-use Rattle.orc_stripe_writer.specs.Groups.{starts, bounds_of}
-use Rattle.orc_stripe.specs.Opened.{Opened}
-use Rattle.orc_stripe.specs.RowIndexes.{HasIndex}
-use Rattle.orc_tail.specs.Stripes.{stripe_at}
-use Rattle.orc_file.specs.FileRows.{stripe_bytes, opened_stripe, cut_rows}
+use Rattle.orc_row_groups.specs.Groups.{starts_of_groups, bounds_of}
+use Rattle.orc_stripe_reader.specs.Opened.{Opened}
+use Rattle.orc_stripe_reader.specs.RowIndexes.{HasIndex}
+use Rattle.orc_tail.specs.Stripes.{stripe_at, stripe_bytes}
+use Rattle.orc_file_reader.specs.FileRows.{opened_stripe, cut_rows}
 use Rattle.orc_tail.specs.declared.tail.Tail.{Tail}
 use Rattle.orc_check.specs.Findings.{rows_at}
 
@@ -43,7 +44,7 @@ pub record NeedsOneRun {A : Type 0} (is_run : List ℕ → List A → Type 0) (b
 -- the same of booleans
 pub record NeedsOneBitRun (bytes : List ℕ) (offset skip bits n : ℕ) : Type 0 where
   pub total : ℕ
-  pub has : HasBits bytes total
+  pub has : HasBooleans bytes total
   pub place : IsWriterBitPosition bytes total offset skip bits n
   pub one_run : (old new : ℕ) → SeekCounts IsByteRun bytes offset (bytes_needed skip bits) old new → new ≤ old + 1
 
@@ -70,7 +71,7 @@ ColumnReadsOneRun view rows c =
     (message : RowIndexMsg) → HasIndex view.footer view.bytes c message
     → (g : ℕ) (entry : RowIndexEntry) → slice_get message.entries g ≡ Some entry
     → AreOneRunPositions (shape_at view.schema c) (columns_of view.footer view.bytes c)
-    (before_group (cells view.schema c rows) (bounds_of view.schema c rows (starts view.stride (length rows))) g)
+    (before_group (cells view.schema c rows) (bounds_of view.schema c rows (starts_of_groups view.stride (length rows))) g)
     entry.positions
 
 -- From each position in each row index of a file of these rows one run is read at most.

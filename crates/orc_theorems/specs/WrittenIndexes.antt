@@ -7,14 +7,14 @@ use Rattle.orc_wire.specs.StreamKinds.{ROW_INDEX}
 use Rattle.orc_values.specs.Cells.{Cell}
 use Rattle.orc_values.specs.Columns.{cells}
 use Rattle.orc_values.specs.Shapes.{Shape, width, shape_at}
-use Rattle.orc_column_reader.specs.Directory.{has_stream, slice}
+use Rattle.orc_directory.specs.Directory.{has_stream, slice}
 use Rattle.orc_column_reader.specs.Stripe.{HasFooter, columns_of}
 use Rattle.orc_row_index.specs.RowIndex.{IsWrittenIndex}
-use Rattle.orc_stripe_writer.specs.Groups.{starts, bounds_of}
-use Rattle.orc_stripe_writer.specs.declared.options.Options.{Options}
-use Rattle.orc_tail.specs.Stripes.{stripe_at}
-use Rattle.orc_file.specs.FileRows.{stripe_bytes, FileIs, cut_rows}
-use Rattle.orc_file.specs.Writing.{IsWhole}
+use Rattle.orc_row_groups.specs.Groups.{starts_of_groups, bounds_of}
+use Rattle.orc_row_batch.specs.declared.options.Options.{Options}
+use Rattle.orc_tail.specs.Stripes.{stripe_at, stripe_bytes}
+use Rattle.orc_file_reader.specs.FileRows.{FileIs, cut_rows}
+use Rattle.orc_file_writer.specs.Writing.{WroteWholeFile}
 use Rattle.orc_tail.specs.declared.tail.Tail.{Tail}
 use Rattle.orc_check.specs.Findings.{rows_at}
 
@@ -23,7 +23,7 @@ abbrev pub HasWrittenIndex : ℕ → Shape → List Cell → StripeFooter → Li
 HasWrittenIndex stride s rows footer bytes c =
     (has_stream c ROW_INDEX footer.streams ≡ true)
     × IsWrittenIndex (shape_at s c) (columns_of footer bytes c) (cells s c rows)
-    (bounds_of s c rows (starts stride (length rows))) (slice c ROW_INDEX footer.streams bytes)
+    (bounds_of s c rows (starts_of_groups stride (length rows))) (slice c ROW_INDEX footer.streams bytes)
 
 -- a stripe of these rows has such an index of each column
 pub record IsIndexedAsWritten (s : Shape) (stride : ℕ) (info : StripeInfo) (bytes : List ℕ)
@@ -55,7 +55,7 @@ pub record WasWritten (bytes : List ℕ) (rows : List Cell) : Type 0 where
   pub tail : Tail
   pub first : Option (List ℕ)
   pub told : Option (List ℕ)
-  pub finish_wrote : IsWhole options schema tail first told rows
+  pub finish_wrote : WroteWholeFile options schema tail first told rows
   pub bytes_are : bytes ≡ finish_wrote.bytes
 
 -- each input was written so

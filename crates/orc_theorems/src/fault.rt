@@ -1,6 +1,6 @@
 //! Why a caller gives up.
-use orc_file::FileFault;
 use orc_merger::MergeFault;
+use orc_tail::FileFault;
 
 /// Why a caller gives up: what a call of its answered.
 #[derive(Clone, Copy, Debug, PartialEq, Eq)]

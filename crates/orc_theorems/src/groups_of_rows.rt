@@ -8,24 +8,24 @@
 ghost use Rattle.std.specs.Prelude.{◌≡◌, ℕ, List, [], Option, drop};
 ghost use Rattle.orc_values.specs.Cells.{Cell};
 ghost use Rattle.orc_column_reader.specs.Stripe.{Streams, HasFooter};
-ghost use Rattle.orc_stripe.specs.Opened.{Opened};
-ghost use Rattle.orc_stripe.specs.GroupCursors.{StartsGroup};
-ghost use Rattle.orc_file.specs.FileRows.{FileIs, joined};
+ghost use Rattle.orc_stripe_reader.specs.Opened.{Opened};
+ghost use Rattle.orc_stripe_reader.specs.GroupCursors.{StartsGroup};
+ghost use Rattle.orc_file_reader.specs.FileRows.{FileIs, rows_together};
 ghost use Rattle.orc_tail.specs.declared.tail.Tail.{Tail};
 ghost use Rattle.orc_check.specs.Findings.{Findings};
 ghost use Rattle.orc_check.specs.RightIndexes.{StartsAtGroups};
-ghost use Rattle.orc_merger.specs.Grouping.{Groups, merge, all_leaves, Wrote};
+ghost use Rattle.orc_merge_laws.specs.Grouping.{Groups, merge, all_leaves, Wrote};
 ghost use Rattle.orc_cli_output.specs.Output.{IsOutsideFile};
 ghost use Rattle.orc_cli_output.specs.declared.fault.CliFault.{CliFault};
 ghost use Rattle.orc_cli_rows.specs.Rows.{row_lines, HaveJson};
-ghost use Rattle.orc_cli_rows.specs.FromGroup.{AreFrom, EndsFrom};
-ghost use Rattle.orc_cli_check.specs.Places.{IsPlace, rows_before};
+ghost use Rattle.orc_cli_rows.specs.FromGroup.{AreLinesFromGroup, EndsFrom};
+ghost use Rattle.orc_theorems.specs.Places.{IsPlace, rows_before};
 ghost use Rattle.orc_theorems.specs.Inputs.{AreWithoutFinding};
 ghost use Rattle.orc_theorems.specs.BeforeGroups.{with_bytes, DiffersOnlyBefore, FileDiffersOnlyBefore};
 
 use crate::merged_findings::findings_of_merges;
+use crate::printed_from_a_group::place_laws;
 use orc_check::start_laws;
-use orc_cli_check::place_laws;
 
 /// Where nothing is found of a file, reading may start at each group of its rows, and gives just the rows from there
 /// on. So it may in each file that is merged of such files, in whatever groups. What stands in the streams before the
@@ -42,7 +42,7 @@ pub fn reading_from_the_middle()
     ensures lines { (bytes : List ℕ) (tail : Tail) (rows : List Cell) (stripe group : ℕ) (lines : List ℕ)
         → (it_is_a_file_of_the_rows : FileIs bytes tail rows)
         → (nothing_is_found_of_it : Findings bytes tail rows [])
-        → (these_are_printed : AreFrom bytes tail stripe group lines)
+        → (these_are_printed : AreLinesFromGroup bytes tail stripe group lines)
         → lines ≡ row_lines tail.schema (drop (rows_before tail stripe group) rows) }
     // If a file with rows has no findings, the stripe has the group, and the rows have JSON, then printing the
     // file from this group on fails only with `WriteFailed`, `SourceFailed` or `OutOfMemory`.
@@ -61,10 +61,10 @@ pub fn reading_from_the_middle()
     ensures merged { (groups : Groups) (out : List ℕ) (parts : List (List Cell))
         → (each_merge_wrote : Wrote (merge groups) out)
         → (nothing_is_found_of_the_files : AreWithoutFinding (all_leaves groups) parts)
-        → (tail : Tail) × FileIs out tail (joined parts) × Findings out tail (joined parts) []
-        × StartsAtGroups out tail (joined parts)
-        × ((stripe group : ℕ) (lines : List ℕ) → AreFrom out tail stripe group lines
-        → lines ≡ row_lines tail.schema (drop (rows_before tail stripe group) (joined parts))) }
+        → (tail : Tail) × FileIs out tail (rows_together parts) × Findings out tail (rows_together parts) []
+        × StartsAtGroups out tail (rows_together parts)
+        × ((stripe group : ℕ) (lines : List ℕ) → AreLinesFromGroup out tail stripe group lines
+        → lines ≡ row_lines tail.schema (drop (rows_before tail stripe group) (rows_together parts))) }
 
     // If a stripe starts at a group with some rows, and other bytes differ from the stripe's only before the
     // offsets that the group's index entries record, then the stripe with these other bytes starts at the group
@@ -87,7 +87,7 @@ pub fn reading_from_the_middle()
         → (it_is_a_file_of_the_rows : FileIs bytes tail rows)
         → (nothing_is_found_of_it : Findings bytes tail rows [])
         → (another_differs_only_before_the_group : FileDiffersOnlyBefore bytes tail stripe group other)
-        → (these_are_printed_of_the_other : AreFrom other tail stripe group lines)
+        → (these_are_printed_of_the_other : AreLinesFromGroup other tail stripe group lines)
         → lines ≡ row_lines tail.schema (drop (rows_before tail stripe group) rows) }
     // If a file with rows that have JSON has no findings, a stripe of it has a group, and another file with the
     // same tail differs from it, in that stripe and all later ones, only before the offsets that the group's

@@ -3,14 +3,14 @@
 ghost use Rattle.std.specs.Prelude.{◌≡◌, ◌≢◌, ℕ, List, [], drop, IsTrue, false, IfOk, IfErr};
 ghost use Rattle.std.specs.Io.KnownBytes.{Appends};
 ghost use Rattle.orc_values.specs.Cells.{Cell};
-ghost use Rattle.orc_file.specs.FileRows.{FileIs};
+ghost use Rattle.orc_file_reader.specs.FileRows.{FileIs};
 ghost use Rattle.orc_tail.specs.declared.tail.Tail.{Tail};
 ghost use Rattle.orc_tail.specs.Tails.{IsTail};
 ghost use Rattle.orc_check.specs.declared.finding.Finding.{Finding};
 ghost use Rattle.orc_cli_output.specs.Output.{IsOutsideFile};
 ghost use Rattle.orc_cli_rows.specs.Rows.{row_lines, HaveJson};
-ghost use Rattle.orc_cli_rows.specs.FromGroup.{IsStart, AreFrom};
-ghost use Rattle.orc_cli_check.specs.Places.{IsPlace, rows_before};
+ghost use Rattle.orc_cli_rows.specs.FromGroup.{IsStartText, AreLinesFromGroup};
+ghost use Rattle.orc_theorems.specs.Places.{IsPlace, rows_before};
 ghost use Rattle.orc_theorems.specs.Inputs.{AreFound};
 ghost use Rattle.orc_theorems.specs.BeforeGroups.{FileDiffersOnlyBefore};
 
@@ -18,7 +18,7 @@ use crate::groups_of_rows::reading_from_the_middle;
 use crate::merged_findings_calls::found_in;
 use orc_cli_output::CliFault;
 use orc_cli_rows::rows_to;
-use orc_file::SliceSource;
+use orc_io::SliceSource;
 use std::alloc::Global;
 use std::io::Write;
 
@@ -39,7 +39,7 @@ pub fn print_from<W: Write>(
     // known.
     ensures lines { IfOk result (λ printed. IsTrue printed
         → (tail : Tail) × (rows : List Cell) × (stripe : ℕ) × (group : ℕ)
-        × FileIs bytes.now tail rows × IsStart from.now stripe group
+        × FileIs bytes.now tail rows × IsStartText from.now stripe group
         × Appends (W.contents out.old) (W.contents out.new)
         (row_lines tail.schema (drop (rows_before tail stripe group) rows))) }
     // If false is returned, then `bytes` are a file with rows and with at least one finding.
@@ -49,8 +49,8 @@ pub fn print_from<W: Write>(
     // then an error is `WriteFailed`, `SourceFailed` or `OutOfMemory`.
     ensures only { IfErr result (λ e. (tail : Tail) (rows : List Cell) (stripe group : ℕ)
         → FileIs bytes.now tail rows → HaveJson tail.schema rows
-        → IsStart from.now stripe group
-        → ((n g : ℕ) → IsStart from.now n g → IsPlace tail n g)
+        → IsStartText from.now stripe group
+        → ((n g : ℕ) → IsStartText from.now n g → IsPlace tail n g)
         → IsOutsideFile e) }
 {
     // for its contract alone: where nothing is found, what is printed from a group on are the rows from there on
@@ -85,8 +85,8 @@ pub fn print_other_from<W: Write>(
     // group's first row on.
     ensures lines { IfOk result (λ printed. IsTrue printed
         → (tail : Tail) × (lines : List ℕ) × (stripe : ℕ) × (group : ℕ)
-        × IsTail other.now tail × IsStart from.now stripe group
-        × AreFrom other.now tail stripe group lines
+        × IsTail other.now tail × IsStartText from.now stripe group
+        × AreLinesFromGroup other.now tail stripe group lines
         × Appends (W.contents out.old) (W.contents out.new) lines
         × ((rows : List Cell) → FileIs checked.now tail rows
         → FileDiffersOnlyBefore checked.now tail stripe group other.now

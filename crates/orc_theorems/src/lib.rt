@@ -1,6 +1,6 @@
 //! The theorems: of each a function that does nothing, whose contract is the statement, whole, premises first and
 //! each by a name. And callers over each, which make the calls that it speaks of: what they promise is what it says
-//! of these.
+//! of these. Beside them stand two laws over definitions of several crates: `place_laws` and `written_finding_laws`.
 #![tactic(auto)]
 
 mod fault;
@@ -11,9 +11,11 @@ mod merged_findings;
 mod merged_findings_calls;
 mod merging;
 mod merging_calls;
+mod printed_from_a_group;
 mod seeking;
 mod written_files;
 mod written_files_calls;
+mod written_findings;
 mod written_positions;
 mod written_positions_calls;
 
@@ -25,8 +27,10 @@ pub use merged_findings::findings_of_merges;
 pub use merged_findings_calls::{CheckedJoin, join_checked};
 pub use merging::merge_theorem;
 pub use merging_calls::{in_two_steps, join_in_groupings, join_in_orders, join_in_steps};
+pub use printed_from_a_group::place_laws;
 pub use seeking::{ColumnSought, Sought};
 pub use written_files::written_files_read_back;
 pub use written_files_calls::{ReadBack, write_and_read, write_to};
+pub use written_findings::written_finding_laws;
 pub use written_positions::writers_positions;
 pub use written_positions_calls::{join_and_seek, write_and_seek};

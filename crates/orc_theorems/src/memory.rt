@@ -2,8 +2,9 @@
 ghost use Rattle.std.specs.Prelude.{◌≡◌, ◌↔◌, ◌∷◌, [], Some, IsTrue, IfOk, IfErr};
 ghost use Rattle.orc_merger.specs.Outcomes.{WroteMerge, IsAnswer};
 
-use orc_file::{SliceSource, Tail, VecSink};
+use orc_io::{SliceSource, VecSink};
 use orc_merger::{MergeFault, merge};
+use orc_tail::Tail;
 use std::alloc::Global;
 
 /// A file that a call wrote to memory: the tail that the call answered, and the bytes.

@@ -1,7 +1,7 @@
 //! A caller over the theorem of findings: it checks two files, joins them, and checks what that gave.
 ghost use Rattle.std.specs.Prelude.{◌≡◌, ◌⊎◌, ◌∷◌, [], List, Some, IfOk, IfErr};
 ghost use Rattle.orc_values.specs.Cells.{Cell};
-ghost use Rattle.orc_file.specs.FileRows.{FileIs};
+ghost use Rattle.orc_file_reader.specs.FileRows.{FileIs};
 ghost use Rattle.orc_tail.specs.declared.tail.Tail.{Tail};
 ghost use Rattle.orc_tail.specs.declared.fault.FileFault.TheVariants as fault;
 ghost use Rattle.orc_merger.specs.Outcomes.{WroteMerge};
@@ -11,7 +11,8 @@ use crate::fault::CallFault;
 use crate::memory::{FileInMemory, join_two};
 use crate::merged_findings::findings_of_merges;
 use orc_check::{Finding, check, finding_laws};
-use orc_file::{FileFault, SliceSource};
+use orc_io::SliceSource;
+use orc_tail::FileFault;
 use std::alloc::Global;
 
 /// What is found of two files, the file that they are joined into, and what is found of that.

@@ -12,18 +12,19 @@ ghost use Rattle.orc_values.specs.Cells.{Cell};
 ghost use Rattle.orc_values.specs.Shapes.{width};
 ghost use Rattle.orc_stats.specs.declared.stat.Stat.{Stat};
 ghost use Rattle.orc_stats.specs.Whole.{has_sum};
-ghost use Rattle.orc_stripe_writer.specs.WrittenStripe.{column_stat};
+ghost use Rattle.orc_stats.specs.ColumnStatistics.{column_stat};
 ghost use Rattle.orc_io.specs.Devices.{appended};
-ghost use Rattle.orc_file.specs.FileRows.{FileIs, joined, cut_rows};
-ghost use Rattle.orc_file.specs.Honest.{Honest, HasWholeStats, each_fits};
+ghost use Rattle.orc_file_reader.specs.FileRows.{FileIs, rows_together, cut_rows};
+ghost use Rattle.orc_file_reader.specs.Honest.{Honest, HasWholeStats, each_sum_fits};
 ghost use Rattle.orc_tail.specs.Tails.{IsTail};
 ghost use Rattle.orc_tail.specs.declared.tail.Tail.{Tail};
 ghost use Rattle.orc_merger.specs.Merging.{IsMerge};
 ghost use Rattle.orc_merger.specs.Outcomes.{WroteMerge};
-ghost use Rattle.orc_merger.specs.Grouping.{Groups, merge, all_leaves, Gives, AllShort, Wrote, AllWrote, HaveRows, AreHonestFiles, AreFellows, IsFlatRefused, IsStepRefused};
+ghost use Rattle.orc_merge_laws.specs.Grouping.{Groups, merge, all_leaves, Gives, AllShort, Wrote, AllWrote, HaveRows, AreHonestFiles, AreFellows, IsFlatRefused, IsStepRefused};
 
-use orc_file::{row_laws, tail_laws};
-use orc_merger::{grouping, orders, outcomes};
+use orc_file_reader::row_laws;
+use orc_merge_laws::{grouping, orders, outcomes};
+use orc_tail::tail_laws;
 
 /// Files that are joined in groups become the file that they become at once: the same bytes, in whatever groups,
 /// which have all the files' rows in order. Its statistics are the same for every order of the files, and are those
@@ -75,7 +76,7 @@ pub fn merge_theorem()
         → (it_is_their_merge : IsMerge files tail out)
         → (it_has_fewer_than_2_64_bytes : length out < 2 ^ 64)
         → (each_file_has_rows : HaveRows files parts)
-        → FileIs out tail (joined parts) }
+        → FileIs out tail (rows_together parts) }
 
     // If files have a merged file, and so has a permutation of them, then both merged files have the same file
     // statistics.
@@ -97,7 +98,7 @@ pub fn merge_theorem()
     ensures statistics { (files : List (List ℕ)) (tail : Tail) (out : List ℕ) (parts : List (List Cell))
         → (it_is_their_merge : IsMerge files tail out)
         → (each_file_has_rows_and_their_statistics : AreHonestFiles files parts)
-        → Honest tail (joined parts) × HasWholeStats tail (joined parts) }
+        → Honest tail (rows_together parts) × HasWholeStats tail (rows_together parts) }
     // If a merged file has fewer than 2^64 bytes, and the stripe statistics of each input are those of its rows
     // (element counts may be missing), then the merged tail has a file statistic of each column, which has a
     // sum if and only if the sum of each stripe with values and the sum of all rows fit 64 bits. A statistic of
@@ -109,8 +110,8 @@ pub fn merge_theorem()
         → (it_has_the_column : column < width tail.schema)
         → (told : Stat) × (slice_get tail.file_stats column ≡ Some told)
         × (has_sum told.body
-        ≡ (each_fits tail.schema (cut_rows tail.stripes (joined parts)) column
-        && has_sum (column_stat tail.schema (joined parts) column).body)) }
+        ≡ (each_sum_fits tail.schema (cut_rows tail.stripes (rows_together parts)) column
+        && has_sum (column_stat tail.schema (rows_together parts) column).body)) }
 
     // If the files of a grouping have one schema, version, writer, writer version, stride and other footer
     // fields, and all stripe statistics, and each file that a step below the root gives has fewer than 2^64

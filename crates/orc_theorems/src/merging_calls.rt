@@ -5,25 +5,26 @@ ghost use Rattle.orc_values.specs.Cells.{Cell};
 ghost use Rattle.orc_values.specs.Shapes.{width};
 ghost use Rattle.orc_stats.specs.declared.stat.Stat.{Stat};
 ghost use Rattle.orc_stats.specs.Whole.{has_sum};
-ghost use Rattle.orc_stripe_writer.specs.WrittenStripe.{column_stat};
-ghost use Rattle.orc_file.specs.FileRows.{FileIs, cut_rows};
-ghost use Rattle.orc_file.specs.FileRows as rows;
-ghost use Rattle.orc_file.specs.Honest.{Honest, HasWholeStats, each_fits};
+ghost use Rattle.orc_stats.specs.ColumnStatistics.{column_stat};
+ghost use Rattle.orc_file_reader.specs.FileRows.{FileIs, cut_rows};
+ghost use Rattle.orc_file_reader.specs.FileRows as rows;
+ghost use Rattle.orc_file_reader.specs.Honest.{Honest, HasWholeStats, each_sum_fits};
 ghost use Rattle.orc_tail.specs.Tails.{IsTail};
 ghost use Rattle.orc_tail.specs.declared.tail.Tail.{Tail};
 ghost use Rattle.orc_merger.specs.declared.fault.MergeFault.{MergeFault};
-ghost use Rattle.orc_merger.specs.Faults.{IsRefused, IsDeviceFault};
+ghost use Rattle.orc_merger.specs.Faults.{IsMergeRefused, IsDeviceFault};
 ghost use Rattle.orc_merger.specs.Merging.{IsMerge};
 ghost use Rattle.orc_merger.specs.Outcomes.{WroteMerge, IsAnswer};
-ghost use Rattle.orc_merger.specs.Grouping as grouping;
-ghost use Rattle.orc_merger.specs.Grouping.{Groups, all_leaves, Gives, AllShort, HaveRows, AreHonestFiles, AreFellows, ComesOfJoining, Wrote};
-ghost use Rattle.orc_theorems.specs.Groupings.{at_once, first_two, last_two, Gave, IsStepAnswer};
+ghost use Rattle.orc_merge_laws.specs.Grouping as grouping;
+ghost use Rattle.orc_merge_laws.specs.Grouping.{Groups, all_leaves, Gives, AllShort, HaveRows, AreHonestFiles, AreFellows, ComesOfJoining, Wrote};
+ghost use Rattle.orc_theorems.specs.Groupings.{at_once, first_two, last_two, MergedTo, IsStepAnswer};
 ghost use Rattle.orc_theorems.specs.declared.memory.FileInMemory.{FileInMemory};
 
 use crate::memory::{FileInMemory, is_same, join_three, join_two};
 use crate::merging::merge_theorem;
-use orc_file::{Sink, SliceSource, Source, Tail, VecSink};
+use orc_io::{Sink, SliceSource, Source, VecSink};
 use orc_merger::{MergeFault, merge};
+use orc_tail::Tail;
 use std::alloc::Global;
 
 /// Merges files into memory.
@@ -66,7 +67,7 @@ pub fn in_two_steps<S: Source, W: Sink>(
         → map S.told left.old ≡ map Some xs
         → map S.told right.old ≡ map Some ys
         → IsAnswer xs e ⊎ (IsAnswer ys e
-        ⊎ ((first : List ℕ) × (second : List ℕ) × Gave xs first × Gave ys second × IsAnswer (first ∷ second ∷ []) e))) }
+        ⊎ ((first : List ℕ) × (second : List ℕ) × MergedTo xs first × MergedTo ys second × IsAnswer (first ∷ second ∷ []) e))) }
 {
     // for its contract alone: the last merge of a grouping is the merge of all its files
     merge_theorem();
@@ -99,7 +100,7 @@ pub fn join_in_steps(
     // merge of the three files is refused with `UserMetadataConflict` or `Limit`, too.
     ensures refused { IfErr result (λ e. ComesOfJoining e
         → AreFellows (first.now ∷ second.now ∷ third.now ∷ [])
-        → (fault : MergeFault) × ComesOfJoining fault × IsRefused (first.now ∷ second.now ∷ third.now ∷ []) fault) }
+        → (fault : MergeFault) × ComesOfJoining fault × IsMergeRefused (first.now ∷ second.now ∷ third.now ∷ []) fault) }
     // An error is `SourceFailed`, `WriteFailed`, `OutOfMemory`, or the first fault of the inputs of one of the
     // two merges.
     ensures step { IfErr result (IsStepAnswer (first_two first.now second.now third.now)) }
@@ -194,7 +195,7 @@ pub fn join_in_groupings(
     // and the rows of the three files, in order.
     ensures rows { IfOk result (λ done. (parts : List (List Cell))
         → HaveRows (first.now ∷ second.now ∷ third.now ∷ []) parts
-        → FileIs done.0.bytes.items done.0.tail (rows.joined parts)) }
+        → FileIs done.0.bytes.items done.0.tail (rows.rows_together parts)) }
     // If joining succeeds, and the stripe statistics of each of the three files are those of its rows (element
     // counts may be missing), then the returned tail's stripe statistics are those of all the rows (element
     // counts may be missing), and its file statistics are those of all the rows, with two exceptions. A sum is
@@ -202,7 +203,7 @@ pub fn join_in_groupings(
     // some stripe with a value in that column.
     ensures statistics { IfOk result (λ done. (parts : List (List Cell))
         → AreHonestFiles (first.now ∷ second.now ∷ third.now ∷ []) parts
-        → Honest done.0.tail (rows.joined parts) × HasWholeStats done.0.tail (rows.joined parts)) }
+        → Honest done.0.tail (rows.rows_together parts) × HasWholeStats done.0.tail (rows.rows_together parts)) }
     // If joining succeeds, and the stripe statistics of each of the three files are those of its rows (element
     // counts may be missing), then the returned tail has a file statistic of each column, which has a sum if
     // and only if the sum of each stripe with values and the sum of all rows fit 64 bits. A statistic of a kind
@@ -212,8 +213,8 @@ pub fn join_in_groupings(
         → column < width done.0.tail.schema
         → (told : Stat) × (slice_get done.0.tail.file_stats column ≡ Some told)
         × (has_sum told.body
-        ≡ (each_fits done.0.tail.schema (cut_rows done.0.tail.stripes (rows.joined parts)) column
-        && has_sum (column_stat done.0.tail.schema (rows.joined parts) column).body))) }
+        ≡ (each_sum_fits done.0.tail.schema (cut_rows done.0.tail.stripes (rows.rows_together parts)) column
+        && has_sum (column_stat done.0.tail.schema (rows.rows_together parts) column).body))) }
     // An error is `SourceFailed`, `WriteFailed`, `OutOfMemory`, or the first fault of the inputs of one of the
     // merges: those of the two groupings, and the one of all three files.
     ensures refused { IfErr result (λ e. IsStepAnswer (first_two first.now second.now third.now) e

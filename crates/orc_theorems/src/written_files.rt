@@ -7,19 +7,23 @@
 ghost use Rattle.std.specs.Prelude.{◌≡◌, ◌<◌, ◌^◌, ℕ, List, [], length, Option};
 ghost use Rattle.orc_values.specs.Cells.{Cell};
 ghost use Rattle.orc_values.specs.Shapes.{Shape};
-ghost use Rattle.orc_stripe_writer.specs.declared.options.Options.{Options};
+ghost use Rattle.orc_row_batch.specs.declared.options.Options.{Options};
 ghost use Rattle.orc_io.specs.Devices.{appended};
 ghost use Rattle.orc_tail.specs.Tails.{IsTail};
 ghost use Rattle.orc_tail.specs.Images.{types_text};
-ghost use Rattle.orc_file.specs.FileRows.{FileIs};
-ghost use Rattle.orc_file.specs.Honest.{Honest, HasWholeStats};
-ghost use Rattle.orc_file.specs.Writing.{IsWhole, IsCutOff, IsFrontOfFile};
+ghost use Rattle.orc_file_reader.specs.FileRows.{FileIs};
+ghost use Rattle.orc_file_reader.specs.Honest.{Honest, HasWholeStats};
+ghost use Rattle.orc_file_writer.specs.Writing.{WroteWholeFile, IsCutOff};
+ghost use Rattle.orc_file.specs.FrontOfFile.{IsFrontOfFile};
 ghost use Rattle.orc_tail.specs.declared.tail.Tail.{Tail};
 ghost use Rattle.orc_check.specs.Findings.{Findings};
 ghost use Rattle.orc_check.specs.declared.finding.Finding.{Finding};
 
+use crate::written_findings::written_finding_laws;
 use orc_check::finding_laws;
-use orc_file::{row_laws, tail_laws, written_laws};
+use orc_file::written_laws;
+use orc_file_reader::row_laws;
+use orc_tail::tail_laws;
 
 /// A file that is written of rows opens with the tail that `finish` answered, is read as those rows, and nothing is
 /// found of it: its statistics, those of its stripes and of the whole file, and its row indexes are those of the
@@ -28,20 +32,20 @@ pub fn written_files_read_back()
     // If `finish` succeeded, then what it wrote, after what the output had before, is a file with the returned
     // tail and the rows that were pushed.
     ensures written { (options : Options) (schema : Shape) (tail : Tail) (first told : Option (List ℕ)) (rows : List Cell)
-        → (finish_wrote : IsWhole options schema tail first told rows)
+        → (finish_wrote : WroteWholeFile options schema tail first told rows)
         → (told ≡ appended first finish_wrote.bytes) × FileIs finish_wrote.bytes tail rows }
     // If `finish` succeeded, and opening what it wrote finds a tail, then this is the tail that `finish`
     // returned.
     ensures opened { (options : Options) (schema : Shape) (tail : Tail) (first told : Option (List ℕ)) (rows : List Cell)
         (opened : Tail)
-        → (finish_wrote : IsWhole options schema tail first told rows)
+        → (finish_wrote : WroteWholeFile options schema tail first told rows)
         → (open_found : IsTail finish_wrote.bytes opened)
         → opened ≡ tail }
     // If `finish` succeeded, and what it wrote is read as a file with some tail and rows, then these are the
     // tail that `finish` returned and the rows that were pushed.
     ensures read { (options : Options) (schema : Shape) (tail : Tail) (first told : Option (List ℕ)) (rows : List Cell)
         (opened : Tail) (found : List Cell)
-        → (finish_wrote : IsWhole options schema tail first told rows)
+        → (finish_wrote : WroteWholeFile options schema tail first told rows)
         → (rows_found : FileIs finish_wrote.bytes opened found)
         → (opened ≡ tail) × (found ≡ rows) }
     // If `finish` succeeded, then the returned tail's stripe statistics are those of the rows (element counts
@@ -50,20 +54,20 @@ pub fn written_files_read_back()
     // with a value in that column.
     ensures statistics { (options : Options) (schema : Shape) (tail : Tail) (first told : Option (List ℕ))
         (rows : List Cell)
-        → (finish_wrote : IsWhole options schema tail first told rows)
+        → (finish_wrote : WroteWholeFile options schema tail first told rows)
         → Honest tail rows × HasWholeStats tail rows }
     // If `finish` succeeded, and checking what it wrote finds a list of findings, then this list is empty.
     ensures checked { (options : Options) (schema : Shape) (tail : Tail) (first told : Option (List ℕ)) (rows : List Cell)
         (found : List Finding)
-        → (finish_wrote : IsWhole options schema tail first told rows)
+        → (finish_wrote : WroteWholeFile options schema tail first told rows)
         → (check_found : Findings finish_wrote.bytes tail rows found)
         → found ≡ [] }
     // If `finish` succeeded twice for the same rows, options and schema, then it wrote the same bytes and
     // returned the same tail both times.
     ensures one { (options : Options) (schema : Shape) (tail other : Tail) (first told start end : Option (List ℕ))
         (rows : List Cell)
-        → (finish_wrote : IsWhole options schema tail first told rows)
-        → (another_finish_wrote : IsWhole options schema other start end rows)
+        → (finish_wrote : WroteWholeFile options schema tail first told rows)
+        → (another_finish_wrote : WroteWholeFile options schema other start end rows)
         → (other ≡ tail) × (another_finish_wrote.bytes ≡ finish_wrote.bytes) }
     // If a call of the writer failed, and the text of the schema's types in the footer has fewer than 2^62
     // bytes, then what was written is a prefix of a file with the schema and the first n of the rows, for some
@@ -78,4 +82,5 @@ pub fn written_files_read_back()
     tail_laws();
     row_laws();
     finding_laws();
+    written_finding_laws();
 }

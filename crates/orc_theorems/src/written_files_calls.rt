@@ -3,10 +3,11 @@
 ghost use Rattle.std.specs.Prelude.{◌≡◌, ◌<◌, ◌^◌, ◌++◌, [], ℕ, List, length, Option, Some, false, IfOk, IfErr, OnOk, IsErrOf};
 ghost use Rattle.orc_values.specs.Cells.{Cell};
 ghost use Rattle.orc_values.specs.Views.{views};
-ghost use Rattle.orc_file.specs.FileRows.{FileIs};
+ghost use Rattle.orc_file_reader.specs.FileRows.{FileIs};
 ghost use Rattle.orc_tail.specs.Images.{types_text};
-ghost use Rattle.orc_file.specs.Progress.{progress};
-ghost use Rattle.orc_file.specs.Writing.{HasPushed, IsWhole, IsCutOff, IsFrontOfFile};
+ghost use Rattle.orc_file_writer.specs.Progress.{progress};
+ghost use Rattle.orc_file_writer.specs.Writing.{HasPushed, WroteWholeFile, IsCutOff};
+ghost use Rattle.orc_file.specs.FrontOfFile.{IsFrontOfFile};
 ghost use Rattle.orc_tail.specs.declared.tail.Tail.{Tail};
 ghost use Rattle.orc_tail.specs.declared.fault.FileFault.TheVariants as fault;
 ghost use Rattle.orc_theorems.specs.Inputs.{AreFound};
@@ -15,8 +16,11 @@ use crate::memory::FileInMemory;
 use crate::merged_findings_calls::found_in;
 use crate::written_files::written_files_read_back;
 use orc_check::Finding;
-use orc_file::{FileFault, OrcFile, Sink, SliceSource, Tail, VecSink, Writer};
-use orc_stripe::Options;
+use orc_file_reader::OrcFile;
+use orc_file_writer::Writer;
+use orc_io::{Sink, SliceSource, VecSink};
+use orc_row_batch::Options;
+use orc_tail::{FileFault, Tail};
 use orc_types::Schema;
 use orc_values::Row;
 use std::alloc::Global;
@@ -62,7 +66,7 @@ pub fn write_to<W: Sink>(
     // If the call succeeds and the output's bytes are known, then the output has got the whole file of `rows`,
     // which has fewer than 2^64 bytes, and the file's tail is returned.
     ensures written { IfOk result (λ done.
-        IsWhole options schema done.0 (W.told out) (W.told done.1) (views rows.now)) }
+        WroteWholeFile options schema done.0 (W.told out) (W.told done.1) (views rows.now)) }
     // If the error is `WriteFailed`, the output's bytes are known, and the text of the schema's types in the
     // footer has fewer than 2^62 bytes, then the output has got a prefix of a file with the schema and the
     // first n of `rows`, for some n.
@@ -90,7 +94,7 @@ pub(crate) fn write_rows(
     rows: &[Row<'_>],
 ) -> Result<FileInMemory, FileFault>
     ensures { IfOk result (λ file.
-        IsWhole options schema file.tail (Some []) (Some file.bytes.items) (views rows.now)) }
+        WroteWholeFile options schema file.tail (Some []) (Some file.bytes.items) (views rows.now)) }
 {
     match write_to(alloc, schema, options, rows, VecSink::new(alloc)) {
         Ok((tail, out)) => Ok(FileInMemory {
@@ -124,7 +128,7 @@ pub fn write_and_read(
     // If the call succeeds, then the returned bytes are the whole file of `rows`, which has fewer than 2^64
     // bytes, and the returned tail is its tail.
     ensures written { IfOk result (λ done.
-        IsWhole options schema done.file.tail (Some []) (Some done.file.bytes.items) (views rows.now)) }
+        WroteWholeFile options schema done.file.tail (Some []) (Some done.file.bytes.items) (views rows.now)) }
     // If the call succeeds, then the returned rows are those of the returned file, and they are `rows`.
     ensures read { IfOk result (λ done. FileIs done.file.bytes.items done.file.tail (views done.rows.items)) }
     ensures same { IfOk result (λ done. views done.rows.items ≡ views rows.now) }

@@ -1,9 +1,9 @@
 -- A schema's text is that of its kinds and names.
 use Rattle.std.proofs.Common.{◌≡◌, [], Bool, true, false, refl, sym, ◌∙◌, append-nil}
 use Rattle.orc_values.specs.Shapes.{Shape, scalar, list_of, map_of, struct_of, Fields, no_field, field, width, widths, depth, depths, IsStruct}
-use Rattle.orc_types.specs.Schemas.{IsSchema}
-use Rattle.orc_types.specs.SchemaText.{text, fields_text, IsPlain, bare, bare_fields, HasText}
-use Rattle.orc_types.specs.TextFronts.{IsFront}
+use Rattle.orc_types.specs.Schemas.{IsSchema, HasText}
+use Rattle.orc_trees.specs.SchemaText.{text, fields_text, IsPlain, bare, bare_fields}
+use Rattle.orc_trees.specs.TextFronts.{IsTypeFront}
 use Rattle.orc_types.proofs.TextSchemas.{text_schema}
 
 mutual
@@ -47,5 +47,5 @@ struct-bare (struct_of fs o) h = h
 
 pub bare_text : (s : Shape) → IsSchema s → IsPlain (bare s) → HasText (bare s) (text s)
 bare_text s h plain =
-    let front : IsFront (text s) 32 (bare s) [] = record { plain = plain; depth = rw (depth-bare s) h.levels; spelled = sym (text-bare s) ∙ sym (append-nil (text (bare s))) } in
+    let front : IsTypeFront (text s) 32 (bare s) [] = record { plain = plain; depth = rw (depth-bare s) h.levels; spelled = sym (text-bare s) ∙ sym (append-nil (text (bare s))) } in
     text_schema (text s) (bare s) front (struct-bare s h.root) (rw (width-bare s) h.count)

@@ -5,8 +5,8 @@ use Rattle.std.specs.Prelude.{◌⊎◌, ◌≢◌, slice_get}
 use Rattle.std.specs.List.{AllByRecursion}
 use Rattle.std.specs.Str.{is_utf8}
 use Rattle.orc_values.specs.declared.kind.Scalar.{Scalar}
-use Rattle.orc_types.specs.declared.fault.TypeFault.{TypeFault}
-use Rattle.orc_types.specs.declared.fault.TypeFault.TheVariants as fault
+use Rattle.orc_trees.specs.declared.fault.TypeFault.{TypeFault}
+use Rattle.orc_trees.specs.declared.fault.TypeFault.TheVariants as fault
 use Rattle.orc_values.specs.Kinds.{scalar_of, IsKind}
 use Rattle.orc_wire.specs.declared.type_msg.TypeMsg.{TypeMsg}
 use Rattle.orc_values.specs.Shapes.{Shape, scalar, list_of, map_of, struct_of, Fields, no_field, field}

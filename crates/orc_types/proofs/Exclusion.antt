@@ -7,15 +7,16 @@ use Rattle.std.specs.Str.{is_utf8}
 use Rattle.std.specs.Cmp.Lexicographic.{pointwise}
 use Rattle.std.proofs.lemmas.Bool.{eqb-true, eq-eqb}
 use Rattle.orc_wire.specs.declared.type_msg.TypeMsg.{TypeMsg}
-use Rattle.orc_types.specs.declared.fault.TypeFault.{TypeFault}
-use Rattle.orc_types.specs.declared.fault.TypeFault.TheVariants as fault
+use Rattle.orc_trees.specs.declared.fault.TypeFault.{TypeFault}
+use Rattle.orc_trees.specs.declared.fault.TypeFault.TheVariants as fault
 use Rattle.orc_values.specs.Kinds.{IsKind}
 use Rattle.orc_wire.specs.Types.{types, fields_types}
 use Rattle.orc_values.specs.Shapes.{Shape, scalar, list_of, map_of, struct_of, Fields, no_field, field, width, depth, depths, HasTextNames, HaveTextNames, names_of, IsStruct, starts}
 use Rattle.orc_types.specs.Schemas.{HasTypes, same_node, same_types}
-use Rattle.orc_types.specs.Faults.{HasNoRoot, IsBelow, Descends, TypesFault}
-use Rattle.orc_values.proofs.Together.{all_append}
+use Rattle.orc_types.specs.Faults.{HasNoRoot, IsSubtype, Descends, TypesFault}
 use Rattle.orc_types.proofs.Trees.{past, slice_get_at, drop_suc, length-types, one_list}
+use Rattle.orc_trees.proofs.Depths.{depth_pos}
+use Rattle.orc_values.proofs.Lists.{all_append}
 
 -- ---- facts of all elements
 
@@ -74,17 +75,11 @@ two_got : (a b i x : ℕ) → slice_get (a ∷ b ∷ []) i ≡ Some x → (a ≡
 two_got a b zero x h = inl cc
 two_got a b (suc i) x h = inr (one_got b i x h)
 
-below_of : (ts : List TypeMsg) (n : ℕ) (y : TypeMsg) (rest : List TypeMsg) (below : ℕ) → drop n ts ≡ y ∷ rest → IsBelow ts n below → (index : ℕ) × (slice_get y.subtypes index ≡ Some below)
+below_of : (ts : List TypeMsg) (n : ℕ) (y : TypeMsg) (rest : List TypeMsg) (below : ℕ) → drop n ts ≡ y ∷ rest → IsSubtype ts n below → (index : ℕ) × (slice_get y.subtypes index ≡ Some below)
 below_of ts n y rest below h b =
     let at : Some b.type ≡ Some y = sym b.stands ∙ slice_get_at ts n y rest h in
     let e : b.type ≡ y = cc in
     (b.index, subst (λ (t : TypeMsg). slice_get t.subtypes b.index ≡ Some below) e b.subtype)
-
-pub depth_pos : (s : Shape) → 0 < depth s
-depth_pos (scalar k o) = omega arith
-depth_pos (list_of s o) = omega arith
-depth_pos (map_of s t o) = omega arith
-depth_pos (struct_of fs o) = omega arith
 
 -- a way down is shorter than the tree is deep
 mutual

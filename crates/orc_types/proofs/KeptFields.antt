@@ -3,7 +3,7 @@ use Rattle.std.proofs.Common.{◌≡◌, ℕ, List, [], ◌∷◌, ◌++◌}
 use Rattle.orc_wire.specs.declared.type_msg.TypeMsg.{TypeMsg}
 use Rattle.orc_wire.specs.CanonicalKinds.{AreKept}
 use Rattle.orc_types.specs.Schemas.{AllKept}
-use Rattle.orc_values.proofs.Together.{all_append}
+use Rattle.orc_values.proofs.Lists.{all_append}
 
 pub none_kept : (bytes : List ℕ) → bytes ≡ [] → AreKept 4 bytes
 none_kept bytes e = record { fields = []; are = e; from = tt }

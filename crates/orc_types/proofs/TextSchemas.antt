@@ -1,21 +1,20 @@
 -- The schema that a text tells.
-use Rattle.std.proofs.Common.{◌≡◌, ◌≢◌, ℕ, ◌+◌, ◌≤◌, List, [], ◌++◌, length, Bool, true, false, codes, sym, ap, ◌∙◌, arith, length-append, append-nil}
+use Rattle.std.proofs.Common.{◌≡◌, ℕ, ◌+◌, ◌≤◌, List, [], sym, ap, ◌∙◌, arith, append-nil, ◌<◌, refl, subst}
 use Rattle.orc_wire.specs.declared.type_msg.TypeMsg.{TypeMsg}
 use Rattle.orc_wire.specs.CanonicalKinds.{AreKept}
-use Rattle.orc_values.specs.declared.kind.Scalar.{Scalar}
-use Rattle.orc_values.specs.declared.kind.Scalar.TheVariants as kind
-use Rattle.orc_types.specs.declared.fault.TypeFault.{TypeFault}
-use Rattle.orc_types.specs.declared.fault.TypeFault.TheVariants as fault
-use Rattle.orc_values.specs.Shapes.{Shape, scalar, list_of, map_of, struct_of, Fields, no_field, field, width, widths, IsStruct, HasTextNames, HaveTextNames}
+use Rattle.orc_trees.specs.declared.fault.TypeFault.{TypeFault}
+use Rattle.orc_trees.specs.declared.fault.TypeFault.TheVariants as fault
+use Rattle.orc_values.specs.Shapes.{Shape, scalar, list_of, map_of, struct_of, Fields, no_field, field, width, IsStruct, HasTextNames, HaveTextNames, depth}
 use Rattle.orc_wire.specs.Types.{types, fields_types}
-use Rattle.orc_types.specs.Schemas.{AllKept}
-use Rattle.orc_types.specs.SchemaText.{kind_name, comma, colon, text, fields_text, IsPlain, ArePlain, HasText}
-use Rattle.orc_types.specs.TextFaults.{TextFault}
-use Rattle.orc_types.specs.TextFronts.{IsFront, FrontFault}
-use Rattle.orc_values.proofs.Together.{all_append}
+use Rattle.orc_types.specs.Schemas.{AllKept, HasText}
+use Rattle.orc_trees.specs.SchemaText.{text, IsPlain, ArePlain}
+use Rattle.orc_trees.specs.TextFaults.{TextFault}
+use Rattle.orc_trees.specs.TextFronts.{IsTypeFront}
 use Rattle.orc_types.proofs.KeptFields.{none_kept}
-use Rattle.orc_types.proofs.OneText.{one_text}
-use Rattle.orc_types.proofs.TextFronts.{name_text}
+use Rattle.orc_trees.proofs.OneText.{one_whole}
+use Rattle.orc_trees.proofs.TextFronts.{name_text}
+use Rattle.orc_trees.proofs.TextExclusion.{opens_tree}
+use Rattle.orc_values.proofs.Lists.{all_append}
 
 mutual
   plain_names : (s : Shape) → IsPlain s → HasTextNames s
@@ -41,36 +40,7 @@ mutual
   all_plain_kept (field name s fs) n plain =
       all_append (λ (t : TypeMsg). AreKept 4 t.kept) (types s n) (fields_types fs (n + width s)) (plain_kept s n plain.1) (all_plain_kept fs (n + width s) plain.2)
 
-kind_long : (k : Scalar) → 1 ≤ length (kind_name k)
-kind_long kind.Boolean = omega arith
-kind_long kind.Byte = omega arith
-kind_long kind.Short = omega arith
-kind_long kind.Int = omega arith
-kind_long kind.Long = omega arith
-kind_long kind.String = omega arith
-kind_long kind.Binary = omega arith
-kind_long kind.Date = omega arith
-
-field_long : (a b c d e : List ℕ) → length d + length e ≤ length (a ++ b ++ c ++ d ++ e)
-field_long a b c d e = omega (arith, length-append (a ++ b ++ c ++ d) e, length-append (a ++ b ++ c) d)
-
--- a text has a byte for each type at least
-mutual
-  width_text : (s : Shape) → width s ≤ length (text s)
-  width_text (scalar k o) = kind_long k
-  width_text (list_of s o) = omega (arith, length-append (text s) (codes ">"), width_text s)
-  width_text (map_of s t o) =
-      omega (arith, length-append (text s ++ codes "," ++ text t) (codes ">"), length-append (text s ++ codes ",") (text t), length-append (text s) (codes ","), width_text s, width_text t)
-  width_text (struct_of fs o) = omega (arith, length-append (fields_text true fs) (codes ">"), widths_text true fs)
-
-  widths_text : (first : Bool) (fs : Fields) → widths fs ≤ length (fields_text first fs)
-  widths_text first no_field = omega arith
-  widths_text first (field name s fs) = omega (arith, field_long (comma first) name colon (text s) (fields_text false fs), width_text s, widths_text false fs)
-
-pub front_width : (bytes : List ℕ) (d : ℕ) (s : Shape) → IsFront bytes d s [] → width s ≤ length bytes
-front_width bytes d s found = omega (arith, width_text s, ap length (found.spelled ∙ append-nil (text s)))
-
-pub text_schema : (bytes : List ℕ) (s : Shape) → IsFront bytes 32 s [] → IsStruct s → width s ≤ 4096 → HasText s bytes
+pub text_schema : (bytes : List ℕ) (s : Shape) → IsTypeFront bytes 32 s [] → IsStruct s → width s ≤ 4096 → HasText s bytes
 text_schema bytes s found root count =
     record {
       schema = record { root = root; names = plain_names s found.plain; levels = found.depth; count = count; kept = plain_kept s 0 found.plain };
@@ -78,16 +48,17 @@ text_schema bytes s found root count =
       spelled = found.spelled ∙ append-nil (text s);
     }
 
--- why a text that is refused from the front is no schema's
-pub front_fault : (bytes : List ℕ) (f : TypeFault) → FrontFault bytes 32 f → TextFault bytes f
-front_fault bytes (fault.UnsupportedKind k) bad = bad
-front_fault bytes fault.BadTree bad = bad
-front_fault bytes fault.TooDeep bad = bad
-front_fault bytes fault.TooMany bad = absurd bad
-front_fault bytes fault.RootNotStruct bad = absurd bad
-front_fault bytes (fault.BadText place) bad = (bad.0, λ s plain h. bad.1 s [] plain (h ∙ sym (append-nil (text s))))
-front_fault bytes fault.OutOfMemory bad = tt
-
--- bytes are left behind a type's text
-pub more_text : (bytes : List ℕ) (d : ℕ) (s : Shape) (rest : List ℕ) → IsFront bytes d s rest → rest ≢ [] → (t : Shape) → IsPlain t → bytes ≡ text t → ⊥
-more_text bytes d s rest found some t plain h = some (one_text s t rest [] found.plain plain (sym found.spelled ∙ h ∙ sym (append-nil (text t)))).1
+-- a fault that stands leaves no schema
+pub no_text_schema : (bytes : List ℕ) (s : Shape) (f : TypeFault) → HasText s bytes → TextFault bytes f → f ≡ fault.OutOfMemory
+no_text_schema bytes s (fault.UnsupportedKind k) h bad = absurd bad
+no_text_schema bytes s fault.BadTree h bad = absurd bad
+no_text_schema bytes s fault.TooDeep h bad =
+    let deep : 32 < depth s = opens_tree s bytes [] 32 h.plain (h.spelled ∙ sym (append-nil (text s))) bad in
+    absurd (omega (arith, h.schema.levels))
+no_text_schema bytes s fault.TooMany h bad =
+    let same : width bad.shape ≡ width s = ap width (one_whole bad.shape s bad.plain h.plain (sym bad.spelled ∙ h.spelled)) in
+    absurd (omega (arith, h.schema.count, bad.wrong))
+no_text_schema bytes s fault.RootNotStruct h bad =
+    absurd (bad.wrong (subst IsStruct (one_whole s bad.shape h.plain bad.plain (sym h.spelled ∙ bad.spelled)) h.schema.root))
+no_text_schema bytes s (fault.BadText place) h bad = absurd (bad.1 s h.plain h.spelled)
+no_text_schema bytes s fault.OutOfMemory h bad = refl

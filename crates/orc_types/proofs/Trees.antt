@@ -7,15 +7,16 @@ use Rattle.std.proofs.lemmas.List.{drop-drop, drop_at, drop_all}
 use Rattle.std.proofs.lemmas.Bool.Decides.{eqb_tells}
 use Rattle.orc_values.specs.declared.kind.Scalar.{Scalar}
 use Rattle.orc_values.specs.declared.kind.Scalar.TheVariants as kind
-use Rattle.orc_types.specs.declared.fault.TypeFault.{TypeFault}
-use Rattle.orc_types.specs.declared.fault.TypeFault.TheVariants as fault
+use Rattle.orc_trees.specs.declared.fault.TypeFault.{TypeFault}
+use Rattle.orc_trees.specs.declared.fault.TypeFault.TheVariants as fault
 use Rattle.orc_values.specs.Kinds.{number, scalar_of, IsKind}
 use Rattle.orc_wire.specs.Types.{types, fields_types}
 use Rattle.orc_wire.specs.declared.type_msg.TypeMsg.{TypeMsg}
 use Rattle.orc_values.specs.Shapes.{Shape, scalar, list_of, map_of, struct_of, Fields, no_field, field, width, widths, names_of, IsStruct, starts}
 use Rattle.orc_types.specs.Schemas.{HasTypes, AllKept}
-use Rattle.orc_types.specs.Faults.{IsBelow, Descends, HasNoRoot, TypesFault}
-use Rattle.orc_types.specs.Preorder.{HasKeyAt, Found, FoundFields, NoneAt, NoFieldsAt, NameFault, PlaceFault, FieldsPlaceFault}
+use Rattle.orc_types.specs.Faults.{IsSubtype, Descends, HasNoRoot, TypesFault}
+use Rattle.orc_types.specs.Preorder.{HasKeyAt, Found, FoundFields, NoneAt, NoFieldsAt, PlaceFault, FieldsPlaceFault}
+use Rattle.orc_trees.specs.NameFaults.{NameFault}
 use Rattle.orc_values.specs.Views.{fields_of}
 
 -- ---- kinds and their numbers
@@ -416,11 +417,6 @@ slice_get_within [] i d h = absurd (omega arith)
 slice_get_within (x ∷ xs) zero d h = refl
 slice_get_within (x ∷ xs) (suc i) d h = slice_get_within xs i d (omega arith)
 
-pub get_or-any : {X : Type 0} (xs : List X) (i : ℕ) (d e : X) → i < length xs → get_or xs i d ≡ get_or xs i e
-get_or-any [] i d e h = absurd (omega arith)
-get_or-any (x ∷ xs) zero d e h = refl
-get_or-any (x ∷ xs) (suc i) d e h = get_or-any xs i d e (omega arith)
-
 -- why a name is refused
 pub name_fault : (ts : List TypeMsg) (n d : ℕ) (ss : List ℕ) (names : List (List ℕ)) (i : ℕ) (name : List ℕ) (f : TypeFault) → i < length names → get_or names i [] ≡ name → NameFault name f → FieldsPlaceFault ts n d ss names f
 name_fault ts n d ss names i name (fault.UnsupportedKind k) h called bad = absurd bad
@@ -445,7 +441,7 @@ field_fault ts from d ss names gs i next fault.RootNotStruct h here r bad = absu
 field_fault ts from d ss names gs i next (fault.BadText place) h here r bad = (bad.0, inr bad.1)
 field_fault ts from d ss names gs i next fault.OutOfMemory h here r bad = tt
 
-deeper : (ts : List TypeMsg) (n below d : ℕ) → 0 < d → IsBelow ts n below → Descends ts below (d - 1) → Descends ts n d
+deeper : (ts : List TypeMsg) (n below d : ℕ) → 0 < d → IsSubtype ts n below → Descends ts below (d - 1) → Descends ts n d
 deeper ts n below zero p is way = absurd (omega arith)
 deeper ts n below (suc d) p is way = (below, is, rw sub-one at way)
 

@@ -6,8 +6,8 @@ use Rattle.orc_wire.specs.declared.type_msg.TypeMsg.{TypeMsg}
 use Rattle.orc_values.specs.Kinds.{IsKind, list_number, map_number, struct_number}
 use Rattle.orc_values.specs.Shapes.{Shape}
 use Rattle.orc_wire.specs.Types.{types}
-use Rattle.orc_types.specs.declared.fault.TypeFault.{TypeFault}
-use Rattle.orc_types.specs.declared.fault.TypeFault.TheVariants as fault
+use Rattle.orc_trees.specs.declared.fault.TypeFault.{TypeFault}
+use Rattle.orc_trees.specs.declared.fault.TypeFault.TheVariants as fault
 
 -- some type has a kind that no column can have
 pub record HasForeignKind (ts : List TypeMsg) (n : ℕ) : Type 0 where
@@ -23,7 +23,7 @@ pub record IsNoTree (ts : List TypeMsg) : Type 0 where
   pub none : (s : Shape) → ts ≡ types s 0 → ⊥
 
 -- one type is a subtype of another, which is a LIST, a STRUCT or a MAP, and listed behind it
-pub record IsBelow (ts : List TypeMsg) (above below : ℕ) : Type 0 where
+pub record IsSubtype (ts : List TypeMsg) (above below : ℕ) : Type 0 where
   pub type : TypeMsg
   pub index : ℕ
   pub stands : slice_get ts above ≡ Some type
@@ -35,7 +35,7 @@ pub record IsBelow (ts : List TypeMsg) (above below : ℕ) : Type 0 where
 -- a way down from a type, of so many steps
 abbrev pub Descends : List TypeMsg → ℕ → ℕ → Type 0
 Descends ts at zero = Unit {0}
-Descends ts at (suc steps) = (below : ℕ) × IsBelow ts at below × Descends ts below steps
+Descends ts at (suc steps) = (below : ℕ) × IsSubtype ts at below × Descends ts below steps
 
 -- some STRUCT's field has a name that isn't text in UTF-8
 pub record HasBadName (ts : List TypeMsg) : Type 0 where

@@ -1,13 +1,3 @@
 pub mod Schemas
 pub mod Faults
 pub mod Preorder
-pub mod KnownKeys
-pub mod SchemaText
-pub mod TextFaults
-pub mod TextFronts
-pub mod Days
-pub mod FieldNames
-pub mod JsonLeaves
-pub mod JsonRows
-pub mod JsonFaults
-pub mod JsonPrinting

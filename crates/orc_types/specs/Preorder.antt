@@ -5,8 +5,8 @@ use Rattle.orc_wire.specs.declared.type_msg.TypeMsg.{TypeMsg}
 use Rattle.orc_wire.specs.Types.{types, fields_types}
 use Rattle.orc_values.specs.Shapes.{Shape, Fields, width, widths, depth, depths, HasTextNames, HaveTextNames, names_of, starts}
 use Rattle.orc_types.specs.Faults.{HasForeignKind, HasBadName, Descends}
-use Rattle.orc_types.specs.declared.fault.TypeFault.{TypeFault}
-use Rattle.orc_types.specs.declared.fault.TypeFault.TheVariants as fault
+use Rattle.orc_trees.specs.declared.fault.TypeFault.{TypeFault}
+use Rattle.orc_trees.specs.declared.fault.TypeFault.TheVariants as fault
 
 -- the tree whose types stand from one place to another
 pub record Found (ts : List TypeMsg) (n d : ℕ) (s : Shape) (e : ℕ) : Type 0 where
@@ -41,12 +41,6 @@ NoFieldsAt ts n subtypes names =
     → names_of fs ≡ names
     → drop n ts ≡ fields_types fs n ++ rest
     → ⊥
-
--- why bytes are no name
-abbrev pub NameFault : List ℕ → TypeFault → Type 0
-NameFault bytes (fault.BadText place) = (place ≡ 0) × (is_utf8 bytes ≡ false)
-NameFault bytes fault.OutOfMemory = Unit {0}
-NameFault bytes _ = ⊥
 
 -- some name isn't text
 pub record HasBadAmong (names : List (List ℕ)) : Type 0 where

@@ -1,5 +1,5 @@
 -- Schemas (ORC specification, "Types"), within the limits that this project sets.
-use Rattle.std.specs.Prelude.{◌≡◌, ◌≤◌, List, Bool, ◌==◌}
+use Rattle.std.specs.Prelude.{◌≡◌, ◌≤◌, List, Bool, ◌==◌, ℕ}
 use Rattle.std.specs.List.{AllByRecursion}
 use Rattle.std.specs.Ordering.{eq_of_both, on}
 use Rattle.std.specs.Cmp.{IsEquivalence}
@@ -8,8 +8,9 @@ use Rattle.std.proofs.lemmas.Cmp.{on_equiv, and_equiv, lists_equiv, nat_eq_equiv
 use Rattle.orc_wire.specs.declared.type_msg.TypeMsg.{TypeMsg}
 use Rattle.orc_values.specs.Shapes.{Shape, width, depth, IsStruct, HasTextNames}
 use Rattle.orc_wire.specs.Types.{types}
-use Rattle.orc_types.specs.FieldNames.{is_distinct}
+use Rattle.orc_json_rows.specs.FieldNames.{is_distinct}
 use Rattle.orc_wire.specs.CanonicalKinds.{AreKept}
+use Rattle.orc_trees.specs.SchemaText.{IsPlain, text}
 
 -- what each type keeps is fields above 3
 abbrev pub AllKept : List TypeMsg → Type 0
@@ -48,3 +49,9 @@ same_types_equiv =
     on_equiv (λ s. types s 0) (lists_equiv (and_equiv (on_equiv (λ (t : TypeMsg). t.kind) nat_eq_equiv)
     (and_equiv (on_equiv (λ (t : TypeMsg). t.subtypes) nat_list_eq_equiv)
     (and_equiv (on_equiv (λ (t : TypeMsg). t.field_names) (lists_equiv nat_list_eq_equiv)) (on_equiv (λ (t : TypeMsg). t.kept) nat_list_eq_equiv)))))
+
+-- a schema that its text tells, and the text
+pub record HasText (s : Shape) (bytes : List ℕ) : Type 0 where
+  pub schema : IsSchema s
+  pub plain : IsPlain s
+  pub spelled : bytes ≡ text s

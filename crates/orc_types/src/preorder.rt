@@ -1,24 +1,20 @@
 //! A list of types in pre-order to the tree of a schema.
-ghost use Rattle.std.specs.Prelude.{◌≡◌, ◌<◌, ◌↔◌, IsTrue, IfOk, IfErr, IfSome, slice_get, option_map, [], ◌∷◌, true, string_bytes, length, get_or};
+ghost use Rattle.std.specs.Prelude.{◌≡◌, ◌<◌, ◌↔◌, IsTrue, IfOk, IfErr, IfSome, slice_get, option_map, [], ◌∷◌, length, get_or};
 ghost use Rattle.std.specs.List.{AllByRecursion};
-ghost use Rattle.std.specs.Str.{is_utf8};
 ghost use Rattle.orc_values.specs.Kinds.{IsKind};
 ghost use Rattle.orc_types.specs.Schemas.{HasTypes, AllKept};
 ghost use Rattle.orc_types.specs.Faults.{TypesFault};
-ghost use Rattle.orc_types.specs.Preorder.{HasKeyAt, Found, FoundFields, NameFault, PlaceFault, FieldsPlaceFault};
+ghost use Rattle.orc_types.specs.Preorder.{HasKeyAt, Found, FoundFields, PlaceFault, FieldsPlaceFault};
 ghost use Rattle.orc_values.specs.Views.{shape, fields as fields_view};
 
 use crate::copies::copy_bytes;
-use crate::fault::TypeFault;
+use orc_trees::{MOST_LEVELS, TypeFault, name_of};
 use orc_values::{Field, LIST, MAP, STRUCT, Scalar, Tree};
 use orc_wire::TypeMsg;
 use std::alloc::Global;
-use std::str;
 
-/// The most types that a schema has, and the most levels.
+/// The most types that a schema has.
 pub(crate) const MOST_TYPES: usize = 4096;
-
-pub(crate) const MOST_LEVELS: u32 = 32;
 
 /// The type at a place.
 fn type_at(types: &[TypeMsg], at: usize) -> Option<&TypeMsg>
@@ -26,18 +22,6 @@ fn type_at(types: &[TypeMsg], at: usize) -> Option<&TypeMsg>
     ensures below { IfSome result (λ _. at < usize.MAX) }
 {
     types.get(at)
-}
-
-/// A field's name as text.
-pub(crate) fn name_of(alloc: Global, bytes: &[u8]) -> Result<String, TypeFault>
-    ensures text { IfOk result (λ name. string_bytes name ≡ bytes.now) }
-    ensures utf8 { IfOk result (λ _. is_utf8 bytes.now ≡ true) }
-    ensures fault { IfErr result (NameFault bytes.now) }
-{
-    match str::from_utf8(bytes) {
-        Ok(text) => Ok(String::from_str(alloc, text)?),
-        Err(_) => Err(TypeFault::BadText(0)),
-    }
 }
 
 /// Whether a type has one subtype, which begins at a place, and no name.

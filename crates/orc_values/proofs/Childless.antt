@@ -50,3 +50,6 @@ childless_list v = ap childless (view-List v) ∙ ap list_of_size (many_views v.
 
 pub childless_map : (v : Vec MapPair Global) → childless (view (Some (MapOf v))) ≡ map_of_size (length v.items)
 childless_map v = ap childless (view-Map v) ∙ ap map_of_size (ap length (list_of_pairs-pairs_of (map paired v.items)) ∙ length-map v.items paired)
+
+pub values_many : (cs : List Cell) → length (values (map childless cs)) ≡ length (values cs)
+values_many cs = ap length (values_childless cs) ∙ length-map (values cs) childless

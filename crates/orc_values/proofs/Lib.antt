@@ -6,3 +6,6 @@ pub mod Together
 pub mod Listed
 pub mod Bytes
 pub mod Deeper
+pub mod Widths
+pub mod Lists
+pub mod NoCells

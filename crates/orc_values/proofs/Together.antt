@@ -9,12 +9,9 @@ use Rattle.orc_values.specs.Cells.{Cell, null, leaf, list, struct, pairs, Cells,
 use Rattle.orc_values.specs.Columns.{cells, cells_within}
 use Rattle.orc_values.specs.Fits.{fits, all_fit, each_fits, pairs_fit, RowsFit}
 use Rattle.orc_values.proofs.Views.{cells_of-list_of_cells}
+use Rattle.orc_values.proofs.Lists.{all_append}
 
 -- ---- one after the other
-
-pub all_append : {X : Type 0} (P : X → Type 0) (xs ys : List X) → AllByRecursion P xs → AllByRecursion P ys → AllByRecursion P (xs ++ ys)
-all_append P [] ys a b = b
-all_append P (x ∷ xs) ys a b = (a.0, all_append P xs ys a.1 b)
 
 pub values-append : (a b : List Cell) → values (a ++ b) ≡ values a ++ values b
 values-append [] b = refl

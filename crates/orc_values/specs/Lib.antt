@@ -9,3 +9,4 @@ pub mod Childless
 pub mod Own
 pub mod Lent
 pub mod Trues
+pub mod Limits

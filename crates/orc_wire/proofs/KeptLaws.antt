@@ -4,7 +4,7 @@ use Rattle.std.specs.List.{AllByRecursion}
 use Rattle.std.proofs.Common.{subst, inl, inr, arith}
 use Rattle.std.proofs.lemmas.Bool.{cases_lt}
 use Rattle.orc_wire.specs.Fields.{Item}
-use Rattle.orc_wire.specs.SpellsLaws.{one_fields}
+use Rattle.orc_wire.specs.laws.SpellsLaws.{one_fields}
 use Rattle.orc_wire.specs.Canonical.{IsBetween}
 use Rattle.orc_wire.specs.CanonicalKinds.{AreKept}
 

@@ -7,11 +7,11 @@ use Rattle.std.proofs.lemmas.List.{append-nil}
 use Rattle.orc_bits.specs.Zigzag.{zig}
 use Rattle.orc_wire.specs.Fields.{Item}
 use Rattle.orc_wire.specs.Members.{Member, Joined}
-use Rattle.orc_wire.specs.Spells.{number_in, bytes_in, Spells}
+use Rattle.orc_wire.specs.Spells.{number_in, bytes_of_field, Spells}
 use Rattle.orc_wire.specs.Parts.{inside, MessageIn, JoinsOnly}
-use Rattle.orc_wire.specs.Kinds.{Part, number, small, signed, small_signed, flag, text, kept_from, same_signed, last, known, all, each, only}
+use Rattle.orc_wire.specs.Kinds.{FieldPart, number_part, small, signed, small_signed, flag, bytes_part, kept_from, same_signed, last, known, every_value, each, only}
 use Rattle.orc_wire.specs.CanonicalFields.{signed_fits, all_top}
-use Rattle.orc_wire.specs.Table.{newest, in_order, kept_texts, AreSmall, joined_parts, some_parts, GivesParts, JoinsParts, JoinsSome, with_bytes, IsOnly, OnlyMessage}
+use Rattle.orc_wire.specs.Table.{newest, in_order, kept_texts, AreSmall, joined_parts, some_parts, GivesParts, JoinsParts, JoinsSome, with_field_bytes, IsOnly, OnlyMessage}
 
 or_unwrap : {V : Type 0} (p q : Option V) (d : V) → unwrap_or p (unwrap_or q d) ≡ unwrap_or (option_or p q) d
 or_unwrap None q d = refl
@@ -21,7 +21,7 @@ map_or : {V W : Type 0} (f : V → W) (p q : Option V) → option_map f (option_
 map_or f None q = refl
 map_or f (Some v) q = refl
 
-module _ {V : Type 0} (f : Item → Option V) (part : Part (Option V)) (is : (item : Item) (p : Option V) → part.gives item p → p ≡ f item) where
+module _ {V : Type 0} (f : Item → Option V) (part : FieldPart (Option V)) (is : (item : Item) (p : Option V) → part.gives item p → p ≡ f item) where
   pub last_is : (default : V) (fields : List Item) (v : V) → (last default part).says fields v → v ≡ unwrap_or (newest f fields) default
   last_is default [] v e = e
   last_is default (item ∷ before) v h =
@@ -44,7 +44,7 @@ module _ {V : Type 0} (f : Item → Option V) (part : Part (Option V)) (is : (it
       h.4 ∙ (ap (λ (t : List V). t ++ option_to_list h.1) old ∙ ap (λ (q : Option V). in_order f before ++ option_to_list q) p)
 
 -- the other way: what the table says, the fields say
-module _ {V : Type 0} (f : Item → Option V) (part : Part (Option V)) (Q : Item → Type 0) (gives : (item : Item) → Q item → part.gives item (f item)) where
+module _ {V : Type 0} (f : Item → Option V) (part : FieldPart (Option V)) (Q : Item → Type 0) (gives : (item : Item) → Q item → part.gives item (f item)) where
   pub last_says : (default : V) (fields : List Item) (v : V) → AllByRecursion Q fields → v ≡ unwrap_or (newest f fields) default → (last default part).says fields v
   last_says default [] v all e = e
   last_says default (item ∷ before) v all e =
@@ -70,10 +70,10 @@ map_newest g f [] = refl
 map_newest {V} {W} g f (item ∷ before) =
     ap (λ (q : Option W). option_or (option_map g (f item)) q) (map_newest g f before) ∙ sym (map_or g (f item) (newest f before))
 
-pub number_last : (n default : ℕ) (fields : List Item) (v : ℕ) → (last default (number n)).says fields v ↔ (v ≡ unwrap_or (newest (number_in n) fields) default)
+pub number_last : (n default : ℕ) (fields : List Item) (v : ℕ) → (last default (number_part n)).says fields v ↔ (v ≡ unwrap_or (newest (number_in n) fields) default)
 number_last n default fields v = (
-  last_is (number_in n) (number n) (λ item p e. e) default fields v,
-  λ e. last_says (number_in n) (number n) (λ item. ⊤) (λ item q. refl) default fields v (all_top fields) e,
+  last_is (number_in n) (number_part n) (λ item p e. e) default fields v,
+  λ e. last_says (number_in n) (number_part n) (λ item. ⊤) (λ item q. refl) default fields v (all_top fields) e,
 )
 
 is_small : (n : ℕ) (item : Item) (p : Option ℕ) → (small n).gives item p → IfSome (number_in n item) (λ m. m < 2 ^ 32)
@@ -85,16 +85,16 @@ small_last n default fields v = (
   λ h. last_says (number_in n) (small n) (λ item. IfSome (number_in n item) (λ m. m < 2 ^ 32)) (λ item q. (refl, q)) default fields v h.1 h.0,
 )
 
-pub text_last : (n : ℕ) (default : List ℕ) (fields : List Item) (v : List ℕ) → (last default (text n)).says fields v ↔ (v ≡ unwrap_or (newest (bytes_in n) fields) default)
+pub text_last : (n : ℕ) (default : List ℕ) (fields : List Item) (v : List ℕ) → (last default (bytes_part n)).says fields v ↔ (v ≡ unwrap_or (newest (bytes_of_field n) fields) default)
 text_last n default fields v = (
-  last_is (bytes_in n) (text n) (λ item p e. e) default fields v,
-  λ e. last_says (bytes_in n) (text n) (λ item. ⊤) (λ item q. refl) default fields v (all_top fields) e,
+  last_is (bytes_of_field n) (bytes_part n) (λ item p e. e) default fields v,
+  λ e. last_says (bytes_of_field n) (bytes_part n) (λ item. ⊤) (λ item q. refl) default fields v (all_top fields) e,
 )
 
-pub number_known : (n : ℕ) (fields : List Item) (v : Option ℕ) → (known (number n)).says fields v ↔ (v ≡ newest (number_in n) fields)
+pub number_known : (n : ℕ) (fields : List Item) (v : Option ℕ) → (known (number_part n)).says fields v ↔ (v ≡ newest (number_in n) fields)
 number_known n fields v = (
-  known_is (number_in n) (number n) (λ item p e. e) fields v,
-  λ e. known_says (number_in n) (number n) (λ item. ⊤) (λ item q. refl) fields v (all_top fields) e,
+  known_is (number_in n) (number_part n) (λ item p e. e) fields v,
+  λ e. known_says (number_in n) (number_part n) (λ item. ⊤) (λ item q. refl) fields v (all_top fields) e,
 )
 
 pub small_known : (n : ℕ) (fields : List Item) (v : Option ℕ) → (known (small n)).says fields v ↔ ((v ≡ newest (number_in n) fields) × AreSmall n fields)
@@ -103,16 +103,16 @@ small_known n fields v = (
   λ h. known_says (number_in n) (small n) (λ item. IfSome (number_in n item) (λ m. m < 2 ^ 32)) (λ item q. (refl, q)) fields v h.1 h.0,
 )
 
-pub text_known : (n : ℕ) (fields : List Item) (v : Option (List ℕ)) → (known (text n)).says fields v ↔ (v ≡ newest (bytes_in n) fields)
+pub text_known : (n : ℕ) (fields : List Item) (v : Option (List ℕ)) → (known (bytes_part n)).says fields v ↔ (v ≡ newest (bytes_of_field n) fields)
 text_known n fields v = (
-  known_is (bytes_in n) (text n) (λ item p e. e) fields v,
-  λ e. known_says (bytes_in n) (text n) (λ item. ⊤) (λ item q. refl) fields v (all_top fields) e,
+  known_is (bytes_of_field n) (bytes_part n) (λ item p e. e) fields v,
+  λ e. known_says (bytes_of_field n) (bytes_part n) (λ item. ⊤) (λ item q. refl) fields v (all_top fields) e,
 )
 
-pub text_each : (n : ℕ) (fields : List Item) (v : List (List ℕ)) → (each (text n)).says fields v ↔ (v ≡ in_order (bytes_in n) fields)
+pub text_each : (n : ℕ) (fields : List Item) (v : List (List ℕ)) → (each (bytes_part n)).says fields v ↔ (v ≡ in_order (bytes_of_field n) fields)
 text_each n fields v = (
-  each_is (bytes_in n) (text n) (λ item p e. e) fields v,
-  λ e. each_says (bytes_in n) (text n) (λ item. ⊤) (λ item q. refl) fields v (all_top fields) e,
+  each_is (bytes_of_field n) (bytes_part n) (λ item p e. e) fields v,
+  λ e. each_says (bytes_of_field n) (bytes_part n) (λ item. ⊤) (λ item q. refl) fields v (all_top fields) e,
 )
 
 zig_small : (p : Option ℤ) → IfSome p (λ z. zig z < 2 ^ 32) → IfSome (option_map zig p) (λ m. m < 2 ^ 32)
@@ -120,7 +120,7 @@ zig_small None h = tt
 zig_small (Some z) h = h
 
 -- a value that stands for its number
-module _ {V W : Type 0} (code : W → V) (f : Item → Option V) (part : Part (Option W)) (is : (item : Item) (p : Option W) → part.gives item p → option_map code p ≡ f item) where
+module _ {V W : Type 0} (code : W → V) (f : Item → Option V) (part : FieldPart (Option W)) (is : (item : Item) (p : Option W) → part.gives item p → option_map code p ≡ f item) where
   pub coded_known : (fields : List Item) (v : Option W) → (known part).says fields v → option_map code v ≡ newest f fields
   coded_known [] v e = ap (option_map code) e
   coded_known (item ∷ before) v h =
@@ -188,47 +188,47 @@ flag_known n fields v = (
       known_says (λ item. option_map f (number_in n item)) (flag n) (λ item. ⊤) (λ item q. refl) fields v (all_top fields) (e ∙ sym (map_newest f (number_in n) fields)),
 )
 
-all_joins : {V : Type 0} (part : Part (List V)) (fields : List Item) (v : List V) → (all part).says fields v → JoinsParts part.gives fields v
+all_joins : {V : Type 0} (part : FieldPart (List V)) (fields : List Item) (v : List V) → (every_value part).says fields v → JoinsParts part.gives fields v
 all_joins part [] v e = record { parts = []; are = tt; joined = e }
 all_joins {V} part (item ∷ before) v h =
     let old = all_joins part before h.0 h.2 in
     record { parts = h.1 ∷ old.parts; are = (h.3, old.are); joined = h.4 ∙ ap (λ (t : List V). t ++ h.1) old.joined }
 
-all_said : {V : Type 0} (part : Part (List V)) (fields : List Item) (parts : List (List V)) (v : List V) → GivesParts part.gives fields parts → v ≡ joined_parts parts → (all part).says fields v
+all_said : {V : Type 0} (part : FieldPart (List V)) (fields : List Item) (parts : List (List V)) (v : List V) → GivesParts part.gives fields parts → v ≡ joined_parts parts → (every_value part).says fields v
 all_said part [] [] v are e = e
 all_said part [] (p ∷ ps) v are e = absurd are
 all_said part (item ∷ before) [] v are e = absurd are
 all_said part (item ∷ before) (p ∷ ps) v are e = (joined_parts ps, p, all_said part before ps (joined_parts ps) are.1 refl, are.0, e)
 
-pub all_parts : {V : Type 0} (part : Part (List V)) (fields : List Item) (v : List V) → (all part).says fields v ↔ JoinsParts part.gives fields v
+pub all_parts : {V : Type 0} (part : FieldPart (List V)) (fields : List Item) (v : List V) → (every_value part).says fields v ↔ JoinsParts part.gives fields v
 all_parts part fields v = (all_joins part fields v, λ j. all_said part fields j.parts v j.are j.joined)
 
-each_joins : {V : Type 0} (part : Part (Option V)) (fields : List Item) (v : List V) → (each part).says fields v → JoinsSome part.gives fields v
+each_joins : {V : Type 0} (part : FieldPart (Option V)) (fields : List Item) (v : List V) → (each part).says fields v → JoinsSome part.gives fields v
 each_joins part [] v e = record { parts = []; are = tt; joined = e }
 each_joins {V} part (item ∷ before) v h =
     let old = each_joins part before h.0 h.2 in
     record { parts = h.1 ∷ old.parts; are = (h.3, old.are); joined = h.4 ∙ ap (λ (t : List V). t ++ option_to_list h.1) old.joined }
 
-each_said : {V : Type 0} (part : Part (Option V)) (fields : List Item) (parts : List (Option V)) (v : List V) → GivesParts part.gives fields parts → v ≡ some_parts parts → (each part).says fields v
+each_said : {V : Type 0} (part : FieldPart (Option V)) (fields : List Item) (parts : List (Option V)) (v : List V) → GivesParts part.gives fields parts → v ≡ some_parts parts → (each part).says fields v
 each_said part [] [] v are e = e
 each_said part [] (p ∷ ps) v are e = absurd are
 each_said part (item ∷ before) [] v are e = absurd are
 each_said part (item ∷ before) (p ∷ ps) v are e = (some_parts ps, p, each_said part before ps (some_parts ps) are.1 refl, are.0, e)
 
-pub each_parts : {V : Type 0} (part : Part (Option V)) (fields : List Item) (v : List V) → (each part).says fields v ↔ JoinsSome part.gives fields v
+pub each_parts : {V : Type 0} (part : FieldPart (Option V)) (fields : List Item) (v : List V) → (each part).says fields v ↔ JoinsSome part.gives fields v
 each_parts part fields v = (each_joins part fields v, λ j. each_said part fields j.parts v j.are j.joined)
 
-kept_is : (n : ℕ) (fields : List Item) (v : List ℕ) → (all (kept_from n)).says fields v → v ≡ kept_texts n fields
+kept_is : (n : ℕ) (fields : List Item) (v : List ℕ) → (every_value (kept_from n)).says fields v → v ≡ kept_texts n fields
 kept_is n [] v e = e
 kept_is n (item ∷ before) v h =
     let old = kept_is n before h.0 h.2 in
     h.4 ∙ (ap (λ (t : List ℕ). t ++ h.1) old ∙ ap (λ (t : List ℕ). kept_texts n before ++ t) h.3)
 
-kept_said : (n : ℕ) (fields : List Item) (v : List ℕ) → v ≡ kept_texts n fields → (all (kept_from n)).says fields v
+kept_said : (n : ℕ) (fields : List Item) (v : List ℕ) → v ≡ kept_texts n fields → (every_value (kept_from n)).says fields v
 kept_said n [] v e = e
 kept_said n (item ∷ before) v e = (kept_texts n before, cond (nat_le n item.number) item.text [], kept_said n before (kept_texts n before) refl, refl, e)
 
-pub kept_parts : (n : ℕ) (fields : List Item) (v : List ℕ) → (all (kept_from n)).says fields v ↔ (v ≡ kept_texts n fields)
+pub kept_parts : (n : ℕ) (fields : List Item) (v : List ℕ) → (every_value (kept_from n)).says fields v ↔ (v ≡ kept_texts n fields)
 kept_parts n fields v = (kept_is n fields v, kept_said n fields v)
 
 -- ---- the one message
@@ -243,13 +243,13 @@ push_one {A} (z ∷ xs) x y e = let h : xs ++ x ∷ [] ≡ [] = cc in absurd (pu
 
 module _ {C : Type 0} (members : Member C) (required n : ℕ) where
   abbrev found : List Item → List (Item × List ℕ)
-  found fields = in_order (with_bytes n) fields
+  found fields = in_order (with_field_bytes n) fields
 
   -- one more field, by the bytes that it holds
-  next_found : (item : Item) (before : List Item) (o : Option (List ℕ)) → bytes_in n item ≡ o → found (item ∷ before) ≡ found before ++ option_to_list (option_map (λ b. (item, b)) o)
+  next_found : (item : Item) (before : List Item) (o : Option (List ℕ)) → bytes_of_field n item ≡ o → found (item ∷ before) ≡ found before ++ option_to_list (option_map (λ b. (item, b)) o)
   next_found item before o e = ap (λ (t : Option (List ℕ)). found before ++ option_to_list (option_map (λ b. (item, b)) t)) e
 
-  only_next : (item : Item) (before : List Item) (o : Option (List ℕ)) (old part v : Option C) → bytes_in n item ≡ o → OnlyMessage members required n before old → MessageIn members required n item o part
+  only_next : (item : Item) (before : List Item) (o : Option (List ℕ)) (old part v : Option C) → bytes_of_field n item ≡ o → OnlyMessage members required n before old → MessageIn members required n item o part
       → JoinsOnly old part v → OnlyMessage members required n (item ∷ before) v
   only_next item before None None part v e says gives join =
       let none : v ≡ None = join ∙ gives in
@@ -266,12 +266,12 @@ module _ {C : Type 0} (members : Member C) (required n : ℕ) where
 
   only_is : (fields : List Item) (v : Option C) → (only members required n).says fields v → OnlyMessage members required n fields v
   only_is [] v e = subst (λ (t : Option C). OnlyMessage members required n [] t) (sym e) refl
-  only_is (item ∷ before) v h = only_next item before (bytes_in n item) h.0 h.1 v refl (only_is before h.0 h.2) h.3 h.4
+  only_is (item ∷ before) v h = only_next item before (bytes_of_field n item) h.0 h.1 v refl (only_is before h.0 h.2) h.3 h.4
 
-  gives_by : (item : Item) (o : Option (List ℕ)) (p : Option C) → bytes_in n item ≡ o → MessageIn members required n item o p → MessageIn members required n item (bytes_in n item) p
+  gives_by : (item : Item) (o : Option (List ℕ)) (p : Option C) → bytes_of_field n item ≡ o → MessageIn members required n item o p → MessageIn members required n item (bytes_of_field n item) p
   gives_by item o p e h = subst (λ (t : Option (List ℕ)). MessageIn members required n item t p) (sym e) h
 
-  only_back : (item : Item) (before : List Item) (o : Option (List ℕ)) (v : Option C) → bytes_in n item ≡ o → ((w : Option C) → OnlyMessage members required n before w → (only members required n).says before w)
+  only_back : (item : Item) (before : List Item) (o : Option (List ℕ)) (v : Option C) → bytes_of_field n item ≡ o → ((w : Option C) → OnlyMessage members required n before w → (only members required n).says before w)
       → OnlyMessage members required n (item ∷ before) v → (only members required n).says (item ∷ before) v
   only_back item before None None e said h =
       (None, None, said None (sym (append-nil (found before)) ∙ (sym (next_found item before None e) ∙ h)), gives_by item None None e refl, refl)
@@ -287,7 +287,7 @@ module _ {C : Type 0} (members : Member C) (required n : ℕ) where
   only_said : (fields : List Item) (v : Option C) → OnlyMessage members required n fields v → (only members required n).says fields v
   only_said [] None h = refl
   only_said [] (Some c) h = let e = h.one in absurd cc
-  only_said (item ∷ before) v h = only_back item before (bytes_in n item) v refl (λ w k. only_said before w k) h
+  only_said (item ∷ before) v h = only_back item before (bytes_of_field n item) v refl (λ w k. only_said before w k) h
 
   pub only_parts : (fields : List Item) (v : Option C) → (only members required n).says fields v ↔ OnlyMessage members required n fields v
   only_parts fields v = (only_is fields v, only_said fields v)

@@ -25,7 +25,7 @@ use Rattle.orc_wire.specs.declared.stripe_footer.StripeFooter.{StripeFooter}
 use Rattle.orc_wire.specs.declared.stripe_info.StripeInfo.{StripeInfo}
 use Rattle.orc_wire.specs.declared.type_msg.TypeMsg.{TypeMsg}
 use Rattle.orc_wire.specs.Fields.{Payload, varint, sized, wire, Item}
-use Rattle.orc_wire.specs.Spells.{Spells, bytes_in}
+use Rattle.orc_wire.specs.Spells.{Spells, bytes_of_field}
 use Rattle.orc_wire.specs.Parts.{MessageIn}
 use Rattle.orc_wire.specs.Kinds.{small, last, each, message}
 use Rattle.orc_wire.specs.Messages.{type_msg, footer}
@@ -232,7 +232,7 @@ types_kept : (fields : List Item) (v : List TypeMsg) → (each (message type_msg
 types_kept [] v e = subst (λ (t : List TypeMsg). AllByRecursion (λ t. AreKept 4 t.kept) t) (sym e) tt
 types_kept (item ∷ before) v h =
     subst (λ (t : List TypeMsg). AllByRecursion (λ t. AreKept 4 t.kept) t) (sym h.4)
-    (all_both (λ t. AreKept 4 t.kept) h.0 (option_to_list h.1) (types_kept before h.0 h.2) (type_in item (bytes_in 4 item) h.1 h.3))
+    (all_both (λ t. AreKept 4 t.kept) h.0 (option_to_list h.1) (types_kept before h.0 h.2) (type_in item (bytes_of_field 4 item) h.1 h.3))
 
 pub footer_kept : (base : ℕ) (bytes : List ℕ) (m : Footer) → Spells footer 0 base bytes m → AreKept 10 m.kept × AllByRecursion (λ t. AreKept 4 t.kept) m.types
 footer_kept base bytes m is = (

@@ -9,7 +9,7 @@ use Rattle.std.proofs.lemmas.List.{append-nil}
 use Rattle.std.proofs.lemmas.Bool.Decides.{nat_tests}
 use Rattle.orc_wire.specs.declared.fault.WireFault.{WireFault}
 use Rattle.orc_wire.specs.Fields.{Item, IsFields}
-use Rattle.orc_wire.specs.Members.{Member, Shape, shaped, ◌and◌}
+use Rattle.orc_wire.specs.Members.{Member, FieldPairs, shaped, ◌and◌}
 use Rattle.orc_wire.specs.Spells.{number_in, has_number, Spells}
 
 -- ---- how a member is written
@@ -24,7 +24,7 @@ pub record IsBetween (low high : ℕ) (item : Item) : Type 0 where
   pub most : item.number < high
 
 -- more fields behind the front, which make the member say v
-pub record Adds {V : Type 0} (member : Member V) (low high : ℕ) (always : ℕ → Type 0)
+pub record AddsToFront {V : Type 0} (member : Member V) (low high : ℕ) (always : ℕ → Type 0)
     (base : ℕ) (before : List Item) (front added : List ℕ) (v : V) : Type 0 where
   pub more : List Item
   pub are : IsFields base (more ++ before) (front ++ added)
@@ -57,7 +57,7 @@ pub record Canonical {V : Type 0} (member : Member V) : Type 1 where
       → (base : ℕ) (before : List Item) (front : List ℕ)
       → IsFields base before front
       → member.says before member.start
-      → Adds member low high always base before front (text v) v
+      → AddsToFront member low high always base before front (text v) v
   -- it refuses its own fields alone, each for one reason
   pub hears : (item : Item) (v : V) (fault : WireFault) → member.refuses item v fault → IsBetween low high item
   pub single : (item : Item) (v : V) (e f : WireFault) → member.refuses item v e → member.refuses item v f → e ≡ f
@@ -116,7 +116,7 @@ module _ {V W : Type 0} (a : Member V) (b : Member W) (x : Canonical a) (y : Can
       → (base : ℕ) (before : List Item) (front : List ℕ)
       → IsFields base before front
       → (a and b).says before (a and b).start
-      → Adds (a and b) x.low y.high (λ n. x.always n ⊎ y.always n) base before front (x.text v.0 ++ y.text v.1) v
+      → AddsToFront (a and b) x.low y.high (λ n. x.always n ⊎ y.always n) base before front (x.text v.0 ++ y.text v.1) v
   both_again v can whole len base before front are says =
       let p = x.ordered in
       let q = y.ordered in
@@ -158,8 +158,8 @@ module _ {V W : Type 0} (a : Member V) (b : Member W) (x : Canonical a) (y : Can
   both_read base fields bytes v are says = (x.read base fields bytes v.0 are says.0, y.read base fields bytes v.1 are says.1)
 
   -- the text of one member, then that of the other, whose field numbers are higher
-  abbrev pub both : Canonical (a and b)
-  both = record {
+  abbrev pub both_members : Canonical (a and b)
+  both_members = record {
     text = λ v. x.text v.0 ++ y.text v.1;
     bounded = λ v. x.bounded v.0 × y.bounded v.1;
     whole = λ v. x.whole v.0 × y.whole v.1;
@@ -195,7 +195,7 @@ module _ {V W : Type 0} (a : Member V) (b : Member W) (x : Canonical a) (y : Can
       → (base : ℕ) (before : List Item) (front : List ℕ)
       → IsFields base before front
       → (a and b).says before (a and b).start
-      → Adds (a and b) x.low y.high x.always base before front (text_if t v) v
+      → AddsToFront (a and b) x.low y.high x.always base before front (text_if t v) v
   again_if true v can whole len base before front are says =
       let r = both_again a b x y apart v can whole len base before front are says in
       record { more = r.more; are = r.are; says = r.says; between = r.between; shows = λ n h. r.shows n (inl h) }
@@ -230,7 +230,7 @@ module _ {V W : Type 0} (a : Member V) (b : Member W) (x : Canonical a) (y : Can
   }
 
 -- the members of a record
-module _ {V W : Type 0} (shape : Shape V W) (m : Member V) (x : Canonical m) where
+module _ {V W : Type 0} (shape : FieldPairs V W) (m : Member V) (x : Canonical m) where
   pub shaped_again : (w : W)
       → x.bounded (shape.into w)
       → x.whole (shape.into w)
@@ -238,7 +238,7 @@ module _ {V W : Type 0} (shape : Shape V W) (m : Member V) (x : Canonical m) whe
       → (base : ℕ) (before : List Item) (front : List ℕ)
       → IsFields base before front
       → (shaped shape m).says before (shaped shape m).start
-      → Adds (shaped shape m) x.low x.high x.always base before front (x.text (shape.into w)) w
+      → AddsToFront (shaped shape m) x.low x.high x.always base before front (x.text (shape.into w)) w
   shaped_again w can whole len base before front are says =
       let r = x.again (shape.into w) can whole len base before front are (subst (λ (v : V). m.says before v) (shape.here m.start) says) in
       record { more = r.more; are = r.are; says = r.says; between = r.between; shows = r.shows }

@@ -12,10 +12,10 @@ use Rattle.orc_bits.proofs.VarintLemmas.{varint_text-is}
 use Rattle.orc_wire.specs.declared.fault.WireFault.{WireFault}
 use Rattle.orc_wire.specs.Fields.{Payload, varint, eight, four, sized, Item, wire, IsPayload, IsField}
 use Rattle.orc_wire.specs.Members.{Member}
-use Rattle.orc_wire.specs.Spells.{as_number, as_bytes, number_in, bytes_in, has_number, Spells}
-use Rattle.orc_wire.specs.SpellsLaws.{one_refusal}
+use Rattle.orc_wire.specs.Spells.{as_number, as_bytes, number_in, bytes_of_field, has_number, Spells}
+use Rattle.orc_wire.specs.laws.SpellsLaws.{one_refusal}
 use Rattle.orc_wire.specs.Parts.{inside, MessageIn, MessageFails}
-use Rattle.orc_wire.specs.Kinds.{Part, number, small, signed, small_signed, flag, text, message}
+use Rattle.orc_wire.specs.Kinds.{FieldPart, number_part, small, signed, small_signed, flag, bytes_part, message}
 use Rattle.orc_wire.specs.CanonicalText.{flag_number, payload_text, field_text}
 use Rattle.orc_wire.specs.Canonical.{IsOutside, IsBetween, Canonical, spells_again}
 
@@ -37,7 +37,7 @@ eqb_is m n e = grind (arith, nat_tests)
 pub no_number : (n : ℕ) (item : Item) → IsOutside n (n + 1) item.number → None ≡ number_in n item
 no_number n item out = rw (eqb_other item.number n out) refl
 
-pub no_bytes : (n : ℕ) (item : Item) → IsOutside n (n + 1) item.number → None ≡ bytes_in n item
+pub no_bytes : (n : ℕ) (item : Item) → IsOutside n (n + 1) item.number → None ≡ bytes_of_field n item
 no_bytes n item out = rw (eqb_other item.number n out) refl
 
 cond_some : {X : Type 0} (b : Bool) (o : Option X) (x : X) → cond b o None ≡ Some x → b ≡ true
@@ -50,7 +50,7 @@ at_number n m e item f = record { least = omega (arith, e, f); most = omega (ari
 pub number_hears : (n : ℕ) (item : Item) (v : ℕ) → number_in n item ≡ Some v → IsBetween n (n + 1) item
 number_hears n item v e = at_number n item.number (eqb_is item.number n (cond_some (item.number == n) (as_number item.payload) v e)) item refl
 
-pub bytes_hears : (n : ℕ) (item : Item) (b : List ℕ) → bytes_in n item ≡ Some b → IsBetween n (n + 1) item
+pub bytes_hears : (n : ℕ) (item : Item) (b : List ℕ) → bytes_of_field n item ≡ Some b → IsBetween n (n + 1) item
 bytes_hears n item b e = at_number n item.number (eqb_is item.number n (cond_some (item.number == n) (as_bytes item.payload) b e)) item refl
 
 -- a field of a payload, written shortly
@@ -93,7 +93,7 @@ or_true false = refl
 pub number_is : (n v place : ℕ) → Some v ≡ number_in n (item_at n (varint v) place)
 number_is n v place = rw (eqb_same n) refl
 
-pub bytes_is : (n : ℕ) (b : List ℕ) (place : ℕ) → Some b ≡ bytes_in n (item_at n (sized b) place)
+pub bytes_is : (n : ℕ) (b : List ℕ) (place : ℕ) → Some b ≡ bytes_of_field n (item_at n (sized b) place)
 bytes_is n b place = rw (eqb_same n) refl
 
 pub shows_number : (n v place m : ℕ) (before : List Item)
@@ -105,7 +105,7 @@ shows_number n v place m before e =
 -- ---- what one field gives
 
 -- a value that one field holds
-pub record Single {V : Type 0} (n : ℕ) (part : Part (Option V)) : Type 1 where
+pub record Single {V : Type 0} (n : ℕ) (part : FieldPart (Option V)) : Type 1 where
   pub payload : V → Payload
   pub bounded : V → Type 0
   pub whole : V → Type 0
@@ -152,7 +152,7 @@ all_top [] = tt
 all_top (x ∷ xs) = (tt, all_top xs)
 
 -- a varint of 64 bits (uint64)
-abbrev pub a_number : (n : ℕ) → Single n (number n)
+abbrev pub a_number : (n : ℕ) → Single n (number_part n)
 a_number n = record {
   payload = λ v. varint v;
   bounded = λ v. v < 2 ^ 64;
@@ -240,7 +240,7 @@ a_flag n = record {
 }
 
 -- bytes behind their length (string or bytes)
-abbrev pub a_text : (n : ℕ) → Single n (text n)
+abbrev pub a_text : (n : ℕ) → Single n (bytes_part n)
 a_text n = record {
   payload = λ v. sized v;
   bounded = λ v. ⊤;
@@ -262,14 +262,14 @@ module _ {C : Type 0} (members : Member C) (w : Canonical members) (required : �
       → w.whole c
       → length (w.text c) < 2 ^ 64
       → MessageIn members required n (item_at n (sized (w.text c)) place)
-      (bytes_in n (item_at n (sized (w.text c)) place)) (Some c)
+      (bytes_of_field n (item_at n (sized (w.text c)) place)) (Some c)
   message_is c place can whole len =
       let item = item_at n (sized (w.text c)) place in
       let is : Spells members required (inside item (w.text c)) (w.text c) c = spells_again members w required (inside item (w.text c)) c can whole len there in
       subst (λ (t : Option (List ℕ)). MessageIn members required n item t (Some c)) (bytes_is n (w.text c) place) (c, refl, is)
 
   pub message_silent : (item : Item)
-      → IsOutside n (n + 1) item.number → MessageIn members required n item (bytes_in n item) None
+      → IsOutside n (n + 1) item.number → MessageIn members required n item (bytes_of_field n item) None
   message_silent item out = subst (λ (t : Option (List ℕ)). MessageIn members required n item t None) (no_bytes n item out) refl
 
   fails_some : (item : Item) (bytes : Option (List ℕ)) (fault : WireFault)
@@ -278,17 +278,17 @@ module _ {C : Type 0} (members : Member C) (w : Canonical members) (required : �
   fails_some item (Some b) fault bad = (b, refl)
 
   pub message_hears : (item : Item) (fault : WireFault)
-      → MessageFails members required n item (bytes_in n item) fault → IsBetween n (n + 1) item
-  message_hears item fault bad = let s = fails_some item (bytes_in n item) fault bad in bytes_hears n item s.0 s.1
+      → MessageFails members required n item (bytes_of_field n item) fault → IsBetween n (n + 1) item
+  message_hears item fault bad = let s = fails_some item (bytes_of_field n item) fault bad in bytes_hears n item s.0 s.1
 
   one_message : (item : Item) (bytes : Option (List ℕ)) (e f : WireFault) → MessageFails members required n item bytes e
       → MessageFails members required n item bytes f → e ≡ f
   one_message item None e f p q = absurd p
   one_message item (Some b) e f p q = one_refusal members required (inside item b) w.single b e f p q
 
-  pub message_single : (item : Item) (e f : WireFault) → MessageFails members required n item (bytes_in n item) e
-      → MessageFails members required n item (bytes_in n item) f → e ≡ f
-  message_single item e f p q = one_message item (bytes_in n item) e f p q
+  pub message_single : (item : Item) (e f : WireFault) → MessageFails members required n item (bytes_of_field n item) e
+      → MessageFails members required n item (bytes_of_field n item) f → e ≡ f
+  message_single item e f p q = one_message item (bytes_of_field n item) e f p q
 
   pub message_read : (item : Item) (bytes : Option (List ℕ)) (p : Option C)
       → MessageIn members required n item bytes p → IfSome p w.bounded
@@ -309,5 +309,5 @@ module _ {C : Type 0} (members : Member C) (w : Canonical members) (required : �
     shows = λ c place m before e. absurd e;
     hears = message_hears;
     single = message_single;
-    read = λ place item p is gives. message_read item (bytes_in n item) p gives;
+    read = λ place item p is gives. message_read item (bytes_of_field n item) p gives;
   }

@@ -14,13 +14,13 @@ use Rattle.orc_bits.proofs.VarintLemmas.{varint_text-is}
 use Rattle.orc_bits.proofs.VarintLaws.{no_varint, one_fault}
 use Rattle.orc_wire.specs.declared.fault.WireFault.{WireFault}
 use Rattle.orc_wire.specs.Fields.{Payload, varint, eight, four, sized, Item, IsField, IsFields, fault_at}
-use Rattle.orc_wire.specs.FieldLaws.{one_varint}
+use Rattle.orc_wire.specs.laws.FieldLaws.{one_varint}
 use Rattle.orc_wire.specs.Members.{Member}
-use Rattle.orc_wire.specs.Spells.{bytes_in}
+use Rattle.orc_wire.specs.Spells.{bytes_of_field}
 use Rattle.orc_wire.specs.Parts.{AreVarints, FailsNext, PackedFails, MessageIn, OnlyFails, JoinsOnly, PackedPart}
-use Rattle.orc_wire.specs.Kinds.{Part, number, small, signed, small_signed, flag, text, packed, message, kept_from, no_front, last, known, all, each, only}
+use Rattle.orc_wire.specs.Kinds.{FieldPart, number_part, small, signed, small_signed, flag, bytes_part, packed, message, kept_from, no_front, last, known, every_value, each, only}
 use Rattle.orc_wire.specs.CanonicalText.{field_text, some_text, shown_text, known_text, list_text, varints_text, packed_text}
-use Rattle.orc_wire.specs.Canonical.{IsOutside, IsBetween, Adds, Canonical, all_both}
+use Rattle.orc_wire.specs.Canonical.{IsOutside, IsBetween, AddsToFront, Canonical, all_both}
 use Rattle.orc_wire.specs.CanonicalFields.{IsNumber, eqb_same, eqb_other, eqb_is, at_number}
 use Rattle.orc_wire.specs.CanonicalFields.{bytes_hears, item_at, field_at, sized_holds, payload_shorter, Single}
 use Rattle.orc_wire.specs.CanonicalFields.{a_number, a_small, a_signed, a_small_signed, a_flag, a_text}
@@ -45,7 +45,7 @@ last_number n is = let m = is.most in omega (arith, m)
 
 -- nothing is added
 pub adds_none : {V : Type 0} (member : Member V) (low high base : ℕ) (before : List Item) (front : List ℕ) (v : V)
-    → IsFields base before front → member.says before v → Adds member low high (λ m. ⊥) base before front [] v
+    → IsFields base before front → member.says before v → AddsToFront member low high (λ m. ⊥) base before front [] v
 adds_none member low high base before front v are says = record {
   more = [];
   are = subst (λ (t : List ℕ). IsFields base before t) (sym (append-nil front)) are;
@@ -66,7 +66,7 @@ listed_fits : {V : Type 0} (P : V → Type 0) (p : Option V) → IfSome p P → 
 listed_fits P None given = tt
 listed_fits P (Some v) given = (given, tt)
 
-module _ {V : Type 0} (n : ℕ) (is : IsNumber n) (part : Part (Option V)) (s : Single n part) where
+module _ {V : Type 0} (n : ℕ) (is : IsNumber n) (part : FieldPart (Option V)) (s : Single n part) where
   pub last_again : (default v : V)
       → s.bounded v
       → s.whole v
@@ -74,7 +74,7 @@ module _ {V : Type 0} (n : ℕ) (is : IsNumber n) (part : Part (Option V)) (s : 
       → (base : ℕ) (before : List Item) (front : List ℕ)
       → IsFields base before front
       → (last default part).says before default
-      → Adds (last default part) n (n + 1) s.counts base before front (field_text n (s.payload v)) v
+      → AddsToFront (last default part) n (n + 1) s.counts base before front (field_text n (s.payload v)) v
   last_again default v can whole len base before front are says = record {
     more = item_at n (s.payload v) (base + length front) ∷ [];
     are = (front, refl, are, field_at n (s.payload v) (base + length front) is (s.holds v can len));
@@ -120,7 +120,7 @@ module _ {V : Type 0} (n : ℕ) (is : IsNumber n) (part : Part (Option V)) (s : 
       → (base : ℕ) (before : List Item) (front : List ℕ)
       → IsFields base before front
       → (known part).says before None
-      → Adds (known part) n (n + 1) (λ m. ⊥) base before front (known_text s.payload n v) v
+      → AddsToFront (known part) n (n + 1) (λ m. ⊥) base before front (known_text s.payload n v) v
   known_again None can whole len base before front are says = adds_none (known part) n (n + 1) base before front None are says
   known_again (Some v) can whole len base before front are says = record {
     more = item_at n (s.payload v) (base + length front) ∷ [];
@@ -139,8 +139,8 @@ module _ {V : Type 0} (n : ℕ) (is : IsNumber n) (part : Part (Option V)) (s : 
       subst (λ (t : Option V). IfSome t s.bounded) (sym says.4) (some_fits s.bounded says.1 says.0 given old)
 
   -- where it is known
-  abbrev pub where_known : Canonical (known part)
-  where_known = record {
+  abbrev pub text_if_known : Canonical (known part)
+  text_if_known = record {
     text = known_text s.payload n;
     bounded = λ v. IfSome v s.bounded;
     whole = λ v. IfSome v s.whole;
@@ -163,7 +163,7 @@ module _ {V : Type 0} (n : ℕ) (is : IsNumber n) (part : Part (Option V)) (s : 
       → (old : List V) (base : ℕ) (before : List Item) (front : List ℕ)
       → IsFields base before front
       → (each part).says before old
-      → Adds (each part) n (n + 1) (λ m. ⊥) base before front (list_text s.payload n vs) (old ++ vs)
+      → AddsToFront (each part) n (n + 1) (λ m. ⊥) base before front (list_text s.payload n vs) (old ++ vs)
   each_adds [] can whole len old base before front are says =
       adds_none (each part) n (n + 1) base before front (old ++ []) are (subst (λ (t : List V). (each part).says before t) (sym (append-nil old)) says)
   each_adds (v ∷ vs) can whole len old base before front are says =
@@ -241,11 +241,11 @@ packed_adds : (limit n : ℕ) (is : IsNumber n) (ns bytes : List ℕ)
     → length (some_text n bytes) < 2 ^ 64
     → (base : ℕ) (before : List Item) (front : List ℕ)
     → IsFields base before front
-    → (all (packed limit n)).says before []
-    → Adds (all (packed limit n)) n (n + 1) (λ m. ⊥) base before front (some_text n bytes) ns
+    → (every_value (packed limit n)).says before []
+    → AddsToFront (every_value (packed limit n)) n (n + 1) (λ m. ⊥) base before front (some_text n bytes) ns
 packed_adds limit n is ns [] are e len base before front fields says =
-    adds_none (all (packed limit n)) n (n + 1) base before front ns fields
-    (subst (λ (t : List ℕ). (all (packed limit n)).says before t) (no_values limit ns are) says)
+    adds_none (every_value (packed limit n)) n (n + 1) base before front ns fields
+    (subst (λ (t : List ℕ). (every_value (packed limit n)).says before t) (no_values limit ns are) says)
 packed_adds limit n is ns (b ∷ bytes) are e len base before front fields says = record {
   more = item_at n (sized (b ∷ bytes)) (base + length front) ∷ [];
   are = (front, refl, fields, field_at n (sized (b ∷ bytes)) (base + length front) is (sized_holds (b ∷ bytes) (payload_shorter n (b ∷ bytes) len)));
@@ -342,8 +342,8 @@ module _ (limit n : ℕ) (few : limit ≤ 2 ^ 64) (is : IsNumber n) where
       → length (packed_text n ns) < 2 ^ 64
       → (base : ℕ) (before : List Item) (front : List ℕ)
       → IsFields base before front
-      → (all (packed limit n)).says before []
-      → Adds (all (packed limit n)) n (n + 1) (λ m. ⊥) base before front (packed_text n ns) ns
+      → (every_value (packed limit n)).says before []
+      → AddsToFront (every_value (packed limit n)) n (n + 1) (λ m. ⊥) base before front (packed_text n ns) ns
   packed_again ns can whole len base before front are says =
       packed_adds limit n is ns (varints_text ns) (varints_are limit few ns can) refl len base before front are says
 
@@ -356,7 +356,7 @@ module _ (limit n : ℕ) (few : limit ≤ 2 ^ 64) (is : IsNumber n) where
       → (packed limit n).refuses item e → (packed limit n).refuses item f → e ≡ f
   packed_single item v e f p q = one_if_fault (item.number == n) limit item.payload item.place e f p q
 
-  pub packed_read : (fields : List Item) (ns : List ℕ) → (all (packed limit n)).says fields ns → AreBelow limit ns
+  pub packed_read : (fields : List Item) (ns : List ℕ) → (every_value (packed limit n)).says fields ns → AreBelow limit ns
   packed_read [] ns e = subst (λ (t : List ℕ). AreBelow limit t) (sym e) tt
   packed_read (item ∷ before) ns says =
       let old = packed_read before says.0 says.2 in
@@ -364,7 +364,7 @@ module _ (limit n : ℕ) (few : limit ≤ 2 ^ 64) (is : IsNumber n) where
       subst (λ (t : List ℕ). AreBelow limit t) (sym says.4) (all_both (λ m. m < limit) says.0 says.1 old given)
 
   -- one packed list, or nothing for an empty one
-  abbrev pub as_packed : Canonical (all (packed limit n))
+  abbrev pub as_packed : Canonical (every_value (packed limit n))
   as_packed = record {
     text = packed_text n;
     bounded = AreBelow limit;
@@ -401,10 +401,10 @@ kept_silent n item most (inl lt) = rw (le_no n item.number lt) refl
 kept_silent n item most (inr ge) = absurd (omega (arith, ge, most))
 
 -- the field at another place
-abbrev pub moved : ℕ → Item → Item
-moved place item = record { number = item.number; place = place; payload = item.payload; text = item.text }
+abbrev pub field_moved : ℕ → Item → Item
+field_moved place item = record { number = item.number; place = place; payload = item.payload; text = item.text }
 
-pub moved_field : (place at : ℕ) (item : Item) → IsField at item → IsField place (moved place item)
+pub moved_field : (place at : ℕ) (item : Item) → IsField at item → IsField place (field_moved place item)
 moved_field place at item is = record {
   key = is.key;
   rest = is.rest;
@@ -420,12 +420,12 @@ moved_field place at item is = record {
 record KeptBehind (n base : ℕ) (before : List Item) (front bytes : List ℕ) : Type 0 where
   more : List Item
   are : IsFields base (more ++ before) (front ++ bytes)
-  says : (all (kept_from n)).says (more ++ before) bytes
+  says : (every_value (kept_from n)).says (more ++ before) bytes
   between : AllByRecursion (IsBetween n (2 ^ 29)) more
 
 kept_behind : (n base : ℕ) (before : List Item) (front : List ℕ)
     → IsFields base before front
-    → (all (kept_from n)).says before []
+    → (every_value (kept_from n)).says before []
     → (fields : List Item) (bytes : List ℕ)
     → IsFields 0 fields bytes
     → AllByRecursion (IsBetween n (2 ^ 29)) fields
@@ -433,7 +433,7 @@ kept_behind : (n base : ℕ) (before : List Item) (front : List ℕ)
 kept_behind n base before front are says [] bytes e from = record {
   more = [];
   are = subst (λ (t : List ℕ). IsFields base before t) (sym (ap (λ (t : List ℕ). front ++ t) e ∙ append-nil front)) are;
-  says = subst (λ (t : List ℕ). (all (kept_from n)).says before t) (sym e) says;
+  says = subst (λ (t : List ℕ). (every_value (kept_from n)).says before t) (sym e) says;
   between = tt;
 }
 kept_behind n base before front are says (item ∷ fields) bytes h from =
@@ -442,7 +442,7 @@ kept_behind n base before front are says (item ∷ fields) bytes h from =
     let parts : front ++ bytes ≡ (front ++ h.0) ++ item.text = ap (λ (t : List ℕ). front ++ t) h.1 ∙ sym (append_assoc front h.0 item.text) in
     let b = from.0 in
     record {
-      more = moved place item ∷ r.more;
+      more = field_moved place item ∷ r.more;
       are = (front ++ h.0, parts, r.are, moved_field place (0 + length h.0) item h.3);
       says = (h.0, item.text, r.says, rw (le_yes n item.number b.least) refl, h.1);
       between = (record { least = b.least; most = b.most }, r.between);
@@ -452,8 +452,8 @@ pub kept_again : (n : ℕ) (bytes : List ℕ)
     → AreKept n bytes
     → (base : ℕ) (before : List Item) (front : List ℕ)
     → IsFields base before front
-    → (all (kept_from n)).says before []
-    → Adds (all (kept_from n)) n (2 ^ 29) (λ m. ⊥) base before front bytes bytes
+    → (every_value (kept_from n)).says before []
+    → AddsToFront (every_value (kept_from n)) n (2 ^ 29) (λ m. ⊥) base before front bytes bytes
 kept_again n bytes kept base before front are says =
     let r = kept_behind n base before front are says kept.fields bytes kept.are kept.from in
     record { more = r.more; are = r.are; says = r.says; between = r.between; shows = λ m e. absurd e }
@@ -463,7 +463,7 @@ module _ (n : ℕ) (is : IsNumber n) where
   kept_ordered = let m = is.most in omega (arith, m)
 
   -- as they stood
-  abbrev pub as_kept : Canonical (all (kept_from n))
+  abbrev pub as_kept : Canonical (every_value (kept_from n))
   as_kept = record {
     text = λ v. v;
     bounded = λ v. ⊤;
@@ -482,7 +482,7 @@ module _ (n : ℕ) (is : IsNumber n) where
 
 -- what the fields of a message say that is kept are fields with kept numbers
 pub says_kept : (n base : ℕ) (fields : List Item) (bytes kept : List ℕ)
-    → IsFields base fields bytes → (all (kept_from n)).says fields kept → AreKept n kept
+    → IsFields base fields bytes → (every_value (kept_from n)).says fields kept → AreKept n kept
 says_kept n base [] bytes kept are e = record { fields = []; are = e; from = tt }
 says_kept n base (item ∷ before) bytes kept are says =
     let old = says_kept n base before are.0 says.0 are.2 says.2 in
@@ -491,7 +491,7 @@ says_kept n base (item ∷ before) bytes kept are says =
       | inr le ↦
           let part : says.1 ≡ item.text = says.3 ∙ rw (le_yes n item.number le) refl in
           record {
-            fields = moved (0 + length says.0) item ∷ old.fields;
+            fields = field_moved (0 + length says.0) item ∷ old.fields;
             are = (says.0, says.4 ∙ ap (λ (t : List ℕ). says.0 ++ t) part, old.are, moved_field (0 + length says.0) (base + length are.0) item are.3);
             from = (record { least = le; most = most }, old.from);
           }
@@ -518,7 +518,7 @@ module _ {C : Type 0} (members : Member C) (w : Canonical members) (required : �
       → (base : ℕ) (before : List Item) (front : List ℕ)
       → IsFields base before front
       → (only members required n).says before None
-      → Adds (only members required n) n (n + 1) (λ m. ⊥) base before front (some_text n bytes) (Some c)
+      → AddsToFront (only members required n) n (n + 1) (λ m. ⊥) base before front (some_text n bytes) (Some c)
   only_some c [] e can whole some len base before front are says = absurd (some refl)
   only_some c (b ∷ bytes) e can whole some len base before front are says =
       let place = base + length front in
@@ -531,7 +531,7 @@ module _ {C : Type 0} (members : Member C) (w : Canonical members) (required : �
           None,
           Some c,
           says,
-          subst (λ (t : List ℕ). MessageIn members required n (item_at n (sized t) place) (bytes_in n (item_at n (sized t) place)) (Some c)) (sym e) gives,
+          subst (λ (t : List ℕ). MessageIn members required n (item_at n (sized t) place) (bytes_of_field n (item_at n (sized t) place)) (Some c)) (sym e) gives,
           refl,
         );
         between = one_between n (sized (b ∷ bytes)) place;
@@ -545,7 +545,7 @@ module _ {C : Type 0} (members : Member C) (w : Canonical members) (required : �
       → (base : ℕ) (before : List Item) (front : List ℕ)
       → IsFields base before front
       → (only members required n).says before None
-      → Adds (only members required n) n (n + 1) (λ m. ⊥) base before front (shown_text w.text n v) v
+      → AddsToFront (only members required n) n (n + 1) (λ m. ⊥) base before front (shown_text w.text n v) v
   only_again None can whole len base before front are says = adds_none (only members required n) n (n + 1) base before front None are says
   only_again (Some c) can whole len base before front are says = only_some c (w.text c) refl can whole.0 whole.1 len base before front are says
 
@@ -573,7 +573,7 @@ module _ {C : Type 0} (members : Member C) (w : Canonical members) (required : �
   pub only_read : (fields : List Item) (v : Option C) → (only members required n).says fields v → IfSome v w.bounded
   only_read [] v e = subst (λ (t : Option C). IfSome t w.bounded) (sym e) tt
   only_read (item ∷ before) v says =
-      only_joins says.0 says.1 v says.4 (only_read before says.0 says.2) (message_read members w required there n item (bytes_in n item) says.1 says.3)
+      only_joins says.0 says.1 v says.4 (only_read before says.0 says.2) (message_read members w required there n item (bytes_of_field n item) says.1 says.3)
 
   -- an embedded message that may stand once, written where its text is not empty
   abbrev pub where_shown : Canonical (only members required n)
@@ -596,44 +596,44 @@ module _ {C : Type 0} (members : Member C) (w : Canonical members) (required : �
 -- ---- one name for each line of the table of messages
 
 -- uint64, always written
-abbrev pub always_number : (n : ℕ) → IsNumber n → Canonical (last 0 (number n))
-always_number n is = written_always n is (number n) (a_number n) 0 (lit< tt)
+abbrev pub always_number : (n : ℕ) → IsNumber n → Canonical (last 0 (number_part n))
+always_number n is = written_always n is (number_part n) (a_number n) 0 (lit< tt)
 
 -- uint32 or an enum, always written
 abbrev pub always_small : (n : ℕ) → IsNumber n → Canonical (last 0 (small n))
 always_small n is = written_always n is (small n) (a_small n) 0 (lit< tt)
 
 -- string or bytes, always written
-abbrev pub always_text : (n : ℕ) → IsNumber n → Canonical (last [] (text n))
-always_text n is = written_always n is (text n) (a_text n) [] tt
+abbrev pub always_text : (n : ℕ) → IsNumber n → Canonical (last [] (bytes_part n))
+always_text n is = written_always n is (bytes_part n) (a_text n) [] tt
 
 -- optional uint64, written where it is known
-abbrev pub known_number : (n : ℕ) → IsNumber n → Canonical (known (number n))
-known_number n is = where_known n is (number n) (a_number n)
+abbrev pub known_number : (n : ℕ) → IsNumber n → Canonical (known (number_part n))
+known_number n is = text_if_known n is (number_part n) (a_number n)
 
 -- optional uint32, written where it is known
 abbrev pub known_small : (n : ℕ) → IsNumber n → Canonical (known (small n))
-known_small n is = where_known n is (small n) (a_small n)
+known_small n is = text_if_known n is (small n) (a_small n)
 
 -- optional sint64, written where it is known
 abbrev pub known_signed : (n : ℕ) → IsNumber n → Canonical (known (signed n))
-known_signed n is = where_known n is (signed n) (a_signed n)
+known_signed n is = text_if_known n is (signed n) (a_signed n)
 
 -- optional sint32, written where it is known
 abbrev pub known_small_signed : (n : ℕ) → IsNumber n → Canonical (known (small_signed n))
-known_small_signed n is = where_known n is (small_signed n) (a_small_signed n)
+known_small_signed n is = text_if_known n is (small_signed n) (a_small_signed n)
 
 -- optional bool, written where it is known
 abbrev pub known_flag : (n : ℕ) → IsNumber n → Canonical (known (flag n))
-known_flag n is = where_known n is (flag n) (a_flag n)
+known_flag n is = text_if_known n is (flag n) (a_flag n)
 
 -- optional string or bytes, written where it is known
-abbrev pub text_where_known : (n : ℕ) → IsNumber n → Canonical (known (text n))
-text_where_known n is = where_known n is (text n) (a_text n)
+abbrev pub text_where_known : (n : ℕ) → IsNumber n → Canonical (known (bytes_part n))
+text_where_known n is = text_if_known n is (bytes_part n) (a_text n)
 
 -- repeated string or bytes, a field for each
-abbrev pub each_as_text : (n : ℕ) → IsNumber n → Canonical (each (text n))
-each_as_text n is = for_each n is (text n) (a_text n)
+abbrev pub each_as_text : (n : ℕ) → IsNumber n → Canonical (each (bytes_part n))
+each_as_text n is = for_each n is (bytes_part n) (a_text n)
 
 -- repeated embedded messages, a field for each; a required member of theirs is always written
 abbrev pub each_message : {C : Type 0} (members : Member C) (w : Canonical members) (required : ℕ)
@@ -642,9 +642,9 @@ each_message members w required there n is =
     for_each n is (message members required n) (a_message members w required there n)
 
 -- repeated uint32, packed
-abbrev pub small_list : (n : ℕ) → IsNumber n → Canonical (all (packed (2 ^ 32) n))
+abbrev pub small_list : (n : ℕ) → IsNumber n → Canonical (every_value (packed (2 ^ 32) n))
 small_list n is = as_packed (2 ^ 32) n (lit≤ tt) is
 
 -- repeated uint64, packed
-abbrev pub number_list : (n : ℕ) → IsNumber n → Canonical (all (packed (2 ^ 64) n))
+abbrev pub number_list : (n : ℕ) → IsNumber n → Canonical (every_value (packed (2 ^ 64) n))
 number_list n is = as_packed (2 ^ 64) n (lit≤ tt) is

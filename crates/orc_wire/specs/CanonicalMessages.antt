@@ -6,9 +6,9 @@ use Rattle.orc_wire.specs.Messages.{encoding, encoding_shape, stream, stream_sha
 use Rattle.orc_wire.specs.Messages.{type_msg, type_shape, stripe_info, stripe_info_shape, integer_stats, integer_stats_shape, string_stats}
 use Rattle.orc_wire.specs.Messages.{string_stats_shape, bucket_stats, bucket_stats_shape, date_stats, date_stats_shape, binary_stats, binary_stats_shape}
 use Rattle.orc_wire.specs.Messages.{collection_stats, collection_stats_shape}
-use Rattle.orc_wire.specs.Messages.{column_stats, column_stats_shape, stripe_stats, stripe_stats_shape, metadata, metadata_shape, row_index_entry}
+use Rattle.orc_wire.specs.Messages.{column_statistics, column_stats_shape, stripe_stats, stripe_stats_shape, metadata, metadata_shape, row_index_entry}
 use Rattle.orc_wire.specs.Messages.{row_index_entry_shape, row_index, row_index_shape, user_metadata, user_metadata_shape, footer, footer_shape}
-use Rattle.orc_wire.specs.Canonical.{Canonical, both, both_if, shaped_text}
+use Rattle.orc_wire.specs.Canonical.{Canonical, both_members, both_if, shaped_text}
 use Rattle.orc_wire.specs.CanonicalFields.{IsNumber}
 use Rattle.orc_wire.specs.CanonicalKinds.{always_number, always_small, always_text, known_number, known_small, known_signed, known_small_signed, known_flag}
 use Rattle.orc_wire.specs.CanonicalKinds.{text_where_known, each_as_text, each_message, small_list, number_list, as_kept, where_shown}
@@ -57,8 +57,8 @@ encoding_text = shaped_text encoding_shape _
 
 -- kind, column, length
 abbrev pub stream_text : Canonical stream
-stream_text = shaped_text stream_shape _ (both _ _ (always_small 1 one)
-    (both _ _ (always_small 2 two) (always_number 3 three) (lit≤ tt)) (lit≤ tt))
+stream_text = shaped_text stream_shape _ (both_members _ _ (always_small 1 one)
+    (both_members _ _ (always_small 2 two) (always_number 3 three) (lit≤ tt)) (lit≤ tt))
 
 -- kind is required of a ColumnEncoding, and always written
 abbrev pub encoding_complete : (◌≡◌ {A = ℕ} 1 0) ⊎ encoding_text.always 1
@@ -70,23 +70,23 @@ stream_complete = inr (inl refl)
 
 -- streams, columns
 abbrev pub stripe_footer_text : Canonical stripe_footer
-stripe_footer_text = shaped_text stripe_footer_shape _ (both _ _
+stripe_footer_text = shaped_text stripe_footer_shape _ (both_members _ _
     (each_message stream stream_text 1 stream_complete 1 one)
     (each_message encoding encoding_text 1 encoding_complete 2 two) (lit≤ tt))
 
 -- footerLength, compression, version, metadataLength, writerVersion where known, magic
 abbrev pub post_script_text : Canonical post_script
-post_script_text = shaped_text post_script_shape _ (both _ _ (always_number 1 one)
-    (both _ _ (always_small 2 two)
-    (both _ _ (small_list 4 four)
-    (both _ _ (always_number 5 five)
-    (both _ _ (known_small 6 six) (always_text 8000 eight_thousand) (lit≤ tt))
+post_script_text = shaped_text post_script_shape _ (both_members _ _ (always_number 1 one)
+    (both_members _ _ (always_small 2 two)
+    (both_members _ _ (small_list 4 four)
+    (both_members _ _ (always_number 5 five)
+    (both_members _ _ (known_small 6 six) (always_text 8000 eight_thousand) (lit≤ tt))
     (lit≤ tt)) (lit≤ tt)) (lit≤ tt)) (lit≤ tt))
 
 -- kind, subtypes, fieldNames, the fields above 3
 abbrev pub type_text : Canonical type_msg
-type_text = shaped_text type_shape _ (both _ _ (always_small 1 one)
-    (both _ _ (small_list 2 two) (both _ _ (each_as_text 3 three) (as_kept 4 four) (lit≤ tt)) (lit≤ tt)) (lit≤ tt))
+type_text = shaped_text type_shape _ (both_members _ _ (always_small 1 one)
+    (both_members _ _ (small_list 2 two) (both_members _ _ (each_as_text 3 three) (as_kept 4 four) (lit≤ tt)) (lit≤ tt)) (lit≤ tt))
 
 -- kind is required of a Type, and always written
 abbrev pub type_complete : (◌≡◌ {A = ℕ} 1 0) ⊎ type_text.always 1
@@ -102,10 +102,10 @@ post_script_complete = inl refl
 
 -- offset, index_length, data_length, footer_length, number_of_rows
 abbrev pub stripe_info_text : Canonical stripe_info
-stripe_info_text = shaped_text stripe_info_shape _ (both _ _ (always_number 1 one)
-    (both _ _ (always_number 2 two)
-    (both _ _ (always_number 3 three)
-    (both _ _ (always_number 4 four) (always_number 5 five) (lit≤ tt))
+stripe_info_text = shaped_text stripe_info_shape _ (both_members _ _ (always_number 1 one)
+    (both_members _ _ (always_number 2 two)
+    (both_members _ _ (always_number 3 three)
+    (both_members _ _ (always_number 4 four) (always_number 5 five) (lit≤ tt))
     (lit≤ tt)) (lit≤ tt)) (lit≤ tt))
 
 -- no member of StripeInformation is required
@@ -114,8 +114,8 @@ stripe_info_complete = inl refl
 
 -- minimum, maximum, sum
 abbrev pub integer_stats_text : Canonical integer_stats
-integer_stats_text = shaped_text integer_stats_shape _ (both _ _ (known_signed 1 one)
-    (both _ _ (known_signed 2 two) (known_signed 3 three) (lit≤ tt)) (lit≤ tt))
+integer_stats_text = shaped_text integer_stats_shape _ (both_members _ _ (known_signed 1 one)
+    (both_members _ _ (known_signed 2 two) (known_signed 3 three) (lit≤ tt)) (lit≤ tt))
 
 -- no member of IntegerStatistics is required
 abbrev pub integer_stats_complete : (◌≡◌ {A = ℕ} 0 0) ⊎ integer_stats_text.always 0
@@ -123,8 +123,8 @@ integer_stats_complete = inl refl
 
 -- minimum, maximum, sum
 abbrev pub string_stats_text : Canonical string_stats
-string_stats_text = shaped_text string_stats_shape _ (both _ _ (text_where_known 1 one)
-    (both _ _ (text_where_known 2 two) (known_signed 3 three) (lit≤ tt)) (lit≤ tt))
+string_stats_text = shaped_text string_stats_shape _ (both_members _ _ (text_where_known 1 one)
+    (both_members _ _ (text_where_known 2 two) (known_signed 3 three) (lit≤ tt)) (lit≤ tt))
 
 -- no member of StringStatistics is required
 abbrev pub string_stats_complete : (◌≡◌ {A = ℕ} 0 0) ⊎ string_stats_text.always 0
@@ -141,7 +141,7 @@ bucket_stats_complete = inl refl
 -- minimum, maximum
 abbrev pub date_stats_text : Canonical date_stats
 date_stats_text = shaped_text date_stats_shape _
-    (both _ _ (known_small_signed 1 one) (known_small_signed 2 two) (lit≤ tt))
+    (both_members _ _ (known_small_signed 1 one) (known_small_signed 2 two) (lit≤ tt))
 
 -- no member of DateStatistics is required
 abbrev pub date_stats_complete : (◌≡◌ {A = ℕ} 0 0) ⊎ date_stats_text.always 0
@@ -157,22 +157,22 @@ binary_stats_complete = inl refl
 
 -- min_children, max_children, total_children
 abbrev pub collection_stats_text : Canonical collection_stats
-collection_stats_text = shaped_text collection_stats_shape _ (both _ _ (known_number 1 one)
-    (both _ _ (known_number 2 two) (known_number 3 three) (lit≤ tt)) (lit≤ tt))
+collection_stats_text = shaped_text collection_stats_shape _ (both_members _ _ (known_number 1 one)
+    (both_members _ _ (known_number 2 two) (known_number 3 three) (lit≤ tt)) (lit≤ tt))
 
 -- no member of CollectionStatistics is required
 abbrev pub collection_stats_complete : (◌≡◌ {A = ℕ} 0 0) ⊎ collection_stats_text.always 0
 collection_stats_complete = inl refl
 
 -- number_of_values, int_statistics, string_statistics, bucket_statistics, date_statistics, binary_statistics, has_null, collection_statistics
-abbrev pub column_stats_text : Canonical column_stats
-column_stats_text = shaped_text column_stats_shape _ (both _ _ (always_number 1 one)
-    (both _ _ (where_shown integer_stats integer_stats_text 0 integer_stats_complete 2 two)
-    (both _ _ (where_shown string_stats string_stats_text 0 string_stats_complete 4 four)
-    (both _ _ (where_shown bucket_stats bucket_stats_text 0 bucket_stats_complete 5 five)
-    (both _ _ (where_shown date_stats date_stats_text 0 date_stats_complete 7 seven)
-    (both _ _ (where_shown binary_stats binary_stats_text 0 binary_stats_complete 8 eight)
-    (both _ _ (known_flag 10 ten) (where_shown collection_stats collection_stats_text 0 collection_stats_complete 12 twelve) (lit≤ tt))
+abbrev pub column_stats_text : Canonical column_statistics
+column_stats_text = shaped_text column_stats_shape _ (both_members _ _ (always_number 1 one)
+    (both_members _ _ (where_shown integer_stats integer_stats_text 0 integer_stats_complete 2 two)
+    (both_members _ _ (where_shown string_stats string_stats_text 0 string_stats_complete 4 four)
+    (both_members _ _ (where_shown bucket_stats bucket_stats_text 0 bucket_stats_complete 5 five)
+    (both_members _ _ (where_shown date_stats date_stats_text 0 date_stats_complete 7 seven)
+    (both_members _ _ (where_shown binary_stats binary_stats_text 0 binary_stats_complete 8 eight)
+    (both_members _ _ (known_flag 10 ten) (where_shown collection_stats collection_stats_text 0 collection_stats_complete 12 twelve) (lit≤ tt))
     (lit≤ tt)) (lit≤ tt)) (lit≤ tt)) (lit≤ tt)) (lit≤ tt)) (lit≤ tt))
 
 -- no member of ColumnStatistics is required
@@ -182,7 +182,7 @@ column_stats_complete = inl refl
 -- col_stats
 abbrev pub stripe_stats_text : Canonical stripe_stats
 stripe_stats_text = shaped_text stripe_stats_shape _
-    (each_message column_stats column_stats_text 0 column_stats_complete 1 one)
+    (each_message column_statistics column_stats_text 0 column_stats_complete 1 one)
 
 -- no member of StripeStatistics is required
 abbrev pub stripe_stats_complete : (◌≡◌ {A = ℕ} 0 0) ⊎ stripe_stats_text.always 0
@@ -199,8 +199,8 @@ metadata_complete = inl refl
 
 -- positions, statistics
 abbrev pub row_index_entry_text : Canonical row_index_entry
-row_index_entry_text = shaped_text row_index_entry_shape _ (both _ _ (number_list 1 one)
-    (where_shown column_stats column_stats_text 0 column_stats_complete 2 two) (lit≤ tt))
+row_index_entry_text = shaped_text row_index_entry_shape _ (both_members _ _ (number_list 1 one)
+    (where_shown column_statistics column_stats_text 0 column_stats_complete 2 two) (lit≤ tt))
 
 -- no member of RowIndexEntry is required
 abbrev pub row_index_entry_complete : (◌≡◌ {A = ℕ} 0 0) ⊎ row_index_entry_text.always 0
@@ -217,7 +217,7 @@ row_index_complete = inl refl
 
 -- name, value
 abbrev pub user_metadata_text : Canonical user_metadata
-user_metadata_text = shaped_text user_metadata_shape _ (both _ _ (always_text 1 one) (always_text 2 two) (lit≤ tt))
+user_metadata_text = shaped_text user_metadata_shape _ (both_members _ _ (always_text 1 one) (always_text 2 two) (lit≤ tt))
 
 -- no member of UserMetadataItem is required
 abbrev pub user_metadata_complete : (◌≡◌ {A = ℕ} 0 0) ⊎ user_metadata_text.always 0
@@ -225,15 +225,15 @@ user_metadata_complete = inl refl
 
 -- header_length, content_length, stripes, types, metadata, number_of_rows, statistics, row_index_stride, writer, kept
 abbrev pub footer_text : Canonical footer
-footer_text = shaped_text footer_shape _ (both _ _ (always_number 1 one)
-    (both _ _ (always_number 2 two)
-    (both _ _ (each_message stripe_info stripe_info_text 0 stripe_info_complete 3 three)
-    (both _ _ (each_message type_msg type_text 1 type_complete 4 four)
-    (both _ _ (each_message user_metadata user_metadata_text 0 user_metadata_complete 5 five)
-    (both _ _ (always_number 6 six)
-    (both _ _ (each_message column_stats column_stats_text 0 column_stats_complete 7 seven)
-    (both _ _ (always_small 8 eight)
-    (both _ _ (known_small 9 nine) (as_kept 10 ten) (lit≤ tt))
+footer_text = shaped_text footer_shape _ (both_members _ _ (always_number 1 one)
+    (both_members _ _ (always_number 2 two)
+    (both_members _ _ (each_message stripe_info stripe_info_text 0 stripe_info_complete 3 three)
+    (both_members _ _ (each_message type_msg type_text 1 type_complete 4 four)
+    (both_members _ _ (each_message user_metadata user_metadata_text 0 user_metadata_complete 5 five)
+    (both_members _ _ (always_number 6 six)
+    (both_members _ _ (each_message column_statistics column_stats_text 0 column_stats_complete 7 seven)
+    (both_members _ _ (always_small 8 eight)
+    (both_members _ _ (known_small 9 nine) (as_kept 10 ten) (lit≤ tt))
     (lit≤ tt)) (lit≤ tt)) (lit≤ tt)) (lit≤ tt)) (lit≤ tt)) (lit≤ tt)) (lit≤ tt)) (lit≤ tt))
 
 -- no member of Footer is required

@@ -1,15 +1,9 @@
 pub mod Fields
 pub mod FieldValue
 pub mod FieldItem
-pub mod FieldLaws
-pub mod FaultLaws
-pub mod FieldCover
 pub mod Members
 pub mod Spells
-pub mod SpellsLaws
-pub mod SpellsCover
 pub mod Parts
-pub mod PartsCover
 pub mod Kinds
 pub mod Table
 pub mod Messages
@@ -22,3 +16,4 @@ pub mod EncodingKinds
 pub mod FieldsNext
 pub mod StreamKinds
 pub mod Types
+pub mod laws

@@ -52,8 +52,8 @@ module _ {V P : Type 0} (zero : V) (join : V → P → V → Type 0) (gives : It
       no_step item v h.1 w fault bad h.3 (subst (λ (t : V). join t h.1 w) olds h.4)
 
   -- the member that joins what each of its fields gives, in order
-  abbrev pub joined : Member V
-  joined = record {
+  abbrev pub joined_member : Member V
+  joined_member = record {
     says = Joined zero join gives;
     steps = λ item v w. (part : P) × gives item part × join v part w;
     refuses = refuses;
@@ -97,13 +97,13 @@ abbrev pub ◌and◌ : {V W : Type 0} → Member V → Member W → Member (V ×
 }
 
 -- a record's fields as pairs, and back
-pub record Shape (V W : Type 0) : Type 0 where
+pub record FieldPairs (V W : Type 0) : Type 0 where
   pub into : W → V
   pub from : V → W
   pub there : (w : W) → from (into w) ≡ w
   pub here : (v : V) → into (from v) ≡ v
 
-pub shaped_steps : {V W : Type 0} (shape : Shape V W) (m : Member V) (item : Item) (v : W)
+pub shaped_steps : {V W : Type 0} (shape : FieldPairs V W) (m : Member V) (item : Item) (v : W)
     → HoldsBytes item.payload
     → ((w : W) × m.steps item (shape.into v) (shape.into w))
     ⊎ ((fault : WireFault) × m.refuses item (shape.into v) fault)
@@ -113,7 +113,7 @@ shaped_steps {V} {W} shape m item v are = elim (m.cover item (shape.into v) are)
 ]
 
 -- the members of a record
-abbrev pub shaped : {V W : Type 0} → Shape V W → Member V → Member W
+abbrev pub shaped : {V W : Type 0} → FieldPairs V W → Member V → Member W
 shaped {V} {W} shape m = record {
   says = λ fields w. m.says fields (shape.into w);
   steps = λ item v w. m.steps item (shape.into v) (shape.into w);

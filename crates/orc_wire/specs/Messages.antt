@@ -19,11 +19,11 @@ use Rattle.orc_wire.specs.declared.row_index.RowIndexEntry.{RowIndexEntry}
 use Rattle.orc_wire.specs.declared.row_index.RowIndexMsg.{RowIndexMsg}
 use Rattle.orc_wire.specs.declared.footer.UserMetadataItem.{UserMetadataItem}
 use Rattle.orc_wire.specs.declared.footer.Footer.{Footer}
-use Rattle.orc_wire.specs.Members.{Member, Shape, shaped, ◌and◌}
-use Rattle.orc_wire.specs.Kinds.{number, small, signed, small_signed, flag, text, packed, message, kept_from, last, known, all, each, only}
+use Rattle.orc_wire.specs.Members.{Member, FieldPairs, shaped, ◌and◌}
+use Rattle.orc_wire.specs.Kinds.{number_part, small, signed, small_signed, flag, bytes_part, packed, message, kept_from, last, known, every_value, each, only}
 
 -- an encoding as its two numbers
-abbrev pub encoding_shape : Shape (ℕ × ℕ) Encoding
+abbrev pub encoding_shape : FieldPairs (ℕ × ℕ) Encoding
 encoding_shape = record {
   into = λ m. (m.kind, m.dictionary_size);
   from = λ p. record { kind = p.0; dictionary_size = p.1 };
@@ -36,7 +36,7 @@ abbrev pub encoding : Member Encoding
 encoding = shaped encoding_shape (last 0 (small 1) and last 0 (small 2))
 
 -- a stream's line in the directory as its three numbers
-abbrev pub stream_shape : Shape (ℕ × (ℕ × ℕ)) StreamMsg
+abbrev pub stream_shape : FieldPairs (ℕ × (ℕ × ℕ)) StreamMsg
 stream_shape = record {
   into = λ m. (m.kind, (m.column, m.length));
   from = λ p. record { kind = p.0; column = p.1.0; length = p.1.1 };
@@ -46,10 +46,10 @@ stream_shape = record {
 
 -- Stream: kind 1, column 2, length 3
 abbrev pub stream : Member StreamMsg
-stream = shaped stream_shape (last 0 (small 1) and last 0 (small 2) and last 0 (number 3))
+stream = shaped stream_shape (last 0 (small 1) and last 0 (small 2) and last 0 (number_part 3))
 
 -- a stripe's footer as its two lists
-abbrev pub stripe_footer_shape : Shape (List StreamMsg × List Encoding) StripeFooter
+abbrev pub stripe_footer_shape : FieldPairs (List StreamMsg × List Encoding) StripeFooter
 stripe_footer_shape = record {
   into = λ m. (m.streams, m.columns);
   from = λ p. record { streams = p.0; columns = p.1 };
@@ -62,7 +62,7 @@ abbrev pub stripe_footer : Member StripeFooter
 stripe_footer = shaped stripe_footer_shape (each (message stream 1 1) and each (message encoding 1 2))
 
 -- a postscript as its parts
-abbrev pub post_script_shape : Shape (ℕ × (ℕ × (List ℕ × (ℕ × (Option ℕ × List ℕ))))) PostScript
+abbrev pub post_script_shape : FieldPairs (ℕ × (ℕ × (List ℕ × (ℕ × (Option ℕ × List ℕ))))) PostScript
 post_script_shape = record {
   into = λ m. (m.footer_length, (m.compression, (m.version, (m.metadata_length, (m.writer_version, m.magic)))));
   from = λ p. record {
@@ -80,15 +80,15 @@ post_script_shape = record {
 -- PostScript: footerLength 1, compression 2, version 4, metadataLength 5, writerVersion 6, magic 8000
 abbrev pub post_script : Member PostScript
 post_script = shaped post_script_shape
-    (last 0 (number 1)
+    (last 0 (number_part 1)
     and last 0 (small 2)
-    and all (packed (2 ^ 32) 4)
-    and last 0 (number 5)
+    and every_value (packed (2 ^ 32) 4)
+    and last 0 (number_part 5)
     and known (small 6)
-    and last [] (text 8000))
+    and last [] (bytes_part 8000))
 
 -- a type as its parts
-abbrev pub type_shape : Shape (ℕ × (List ℕ × (List (List ℕ) × List ℕ))) TypeMsg
+abbrev pub type_shape : FieldPairs (ℕ × (List ℕ × (List (List ℕ) × List ℕ))) TypeMsg
 type_shape = record {
   into = λ m. (m.kind, (m.subtypes, (m.field_names, m.kept)));
   from = λ p. record { kind = p.0; subtypes = p.1.0; field_names = p.1.1.0; kept = p.1.1.1 };
@@ -98,10 +98,10 @@ type_shape = record {
 
 -- Type: kind 1, subtypes 2, fieldNames 3; other fields are kept as they are
 abbrev pub type_msg : Member TypeMsg
-type_msg = shaped type_shape (last 0 (small 1) and all (packed (2 ^ 32) 2) and each (text 3) and all (kept_from 4))
+type_msg = shaped type_shape (last 0 (small 1) and every_value (packed (2 ^ 32) 2) and each (bytes_part 3) and every_value (kept_from 4))
 
 -- a stripe's line in the footer as its five numbers
-abbrev pub stripe_info_shape : Shape (ℕ × (ℕ × (ℕ × (ℕ × ℕ)))) StripeInfo
+abbrev pub stripe_info_shape : FieldPairs (ℕ × (ℕ × (ℕ × (ℕ × ℕ)))) StripeInfo
 stripe_info_shape = record {
   into = λ m. (m.offset, (m.index_length, (m.data_length, (m.footer_length, m.number_of_rows))));
   from = λ p. record { offset = p.0; index_length = p.1.0; data_length = p.1.1.0; footer_length = p.1.1.1.0; number_of_rows = p.1.1.1.1 };
@@ -112,14 +112,14 @@ stripe_info_shape = record {
 -- StripeInformation: offset 1, indexLength 2, dataLength 3, footerLength 4, numberOfRows 5
 abbrev pub stripe_info : Member StripeInfo
 stripe_info = shaped stripe_info_shape
-    (last 0 (number 1)
-    and last 0 (number 2)
-    and last 0 (number 3)
-    and last 0 (number 4)
-    and last 0 (number 5))
+    (last 0 (number_part 1)
+    and last 0 (number_part 2)
+    and last 0 (number_part 3)
+    and last 0 (number_part 4)
+    and last 0 (number_part 5))
 
 -- the statistics of integers as three numbers that may be known
-abbrev pub integer_stats_shape : Shape (Option ℤ × (Option ℤ × Option ℤ)) IntegerStatistics
+abbrev pub integer_stats_shape : FieldPairs (Option ℤ × (Option ℤ × Option ℤ)) IntegerStatistics
 integer_stats_shape = record {
   into = λ m. (m.minimum, (m.maximum, m.sum));
   from = λ p. record { minimum = p.0; maximum = p.1.0; sum = p.1.1 };
@@ -132,7 +132,7 @@ abbrev pub integer_stats : Member IntegerStatistics
 integer_stats = shaped integer_stats_shape (known (signed 1) and known (signed 2) and known (signed 3))
 
 -- the statistics of strings as two texts and a number that may be known
-abbrev pub string_stats_shape : Shape (Option (List ℕ) × (Option (List ℕ) × Option ℤ)) StringStatistics
+abbrev pub string_stats_shape : FieldPairs (Option (List ℕ) × (Option (List ℕ) × Option ℤ)) StringStatistics
 string_stats_shape = record {
   into = λ m. (m.minimum, (m.maximum, m.sum));
   from = λ p. record { minimum = p.0; maximum = p.1.0; sum = p.1.1 };
@@ -142,10 +142,10 @@ string_stats_shape = record {
 
 -- StringStatistics: minimum 1, maximum 2, sum 3
 abbrev pub string_stats : Member StringStatistics
-string_stats = shaped string_stats_shape (known (text 1) and known (text 2) and known (signed 3))
+string_stats = shaped string_stats_shape (known (bytes_part 1) and known (bytes_part 2) and known (signed 3))
 
 -- the statistics of booleans as a list of counts
-abbrev pub bucket_stats_shape : Shape (List ℕ) BucketStatistics
+abbrev pub bucket_stats_shape : FieldPairs (List ℕ) BucketStatistics
 bucket_stats_shape = record {
   into = λ m. m.count;
   from = λ p. record { count = p };
@@ -155,10 +155,10 @@ bucket_stats_shape = record {
 
 -- BucketStatistics: count 1
 abbrev pub bucket_stats : Member BucketStatistics
-bucket_stats = shaped bucket_stats_shape (all (packed (2 ^ 64) 1))
+bucket_stats = shaped bucket_stats_shape (every_value (packed (2 ^ 64) 1))
 
 -- the statistics of dates as two days that may be known
-abbrev pub date_stats_shape : Shape (Option ℤ × Option ℤ) DateStatistics
+abbrev pub date_stats_shape : FieldPairs (Option ℤ × Option ℤ) DateStatistics
 date_stats_shape = record {
   into = λ m. (m.minimum, m.maximum);
   from = λ p. record { minimum = p.0; maximum = p.1 };
@@ -171,7 +171,7 @@ abbrev pub date_stats : Member DateStatistics
 date_stats = shaped date_stats_shape (known (small_signed 1) and known (small_signed 2))
 
 -- the statistics of byte strings as a number that may be known
-abbrev pub binary_stats_shape : Shape (Option ℤ) BinaryStatistics
+abbrev pub binary_stats_shape : FieldPairs (Option ℤ) BinaryStatistics
 binary_stats_shape = record {
   into = λ m. m.sum;
   from = λ p. record { sum = p };
@@ -184,7 +184,7 @@ abbrev pub binary_stats : Member BinaryStatistics
 binary_stats = shaped binary_stats_shape (known (signed 1))
 
 -- the statistics of lists and maps as three numbers that may be known
-abbrev pub collection_stats_shape : Shape (Option ℕ × (Option ℕ × Option ℕ)) CollectionStatistics
+abbrev pub collection_stats_shape : FieldPairs (Option ℕ × (Option ℕ × Option ℕ)) CollectionStatistics
 collection_stats_shape = record {
   into = λ m. (m.min_children, (m.max_children, m.total_children));
   from = λ p. record { min_children = p.0; max_children = p.1.0; total_children = p.1.1 };
@@ -194,10 +194,10 @@ collection_stats_shape = record {
 
 -- CollectionStatistics: minChildren 1, maxChildren 2, totalChildren 3
 abbrev pub collection_stats : Member CollectionStatistics
-collection_stats = shaped collection_stats_shape (known (number 1) and known (number 2) and known (number 3))
+collection_stats = shaped collection_stats_shape (known (number_part 1) and known (number_part 2) and known (number_part 3))
 
 -- a column's statistics as their parts
-abbrev pub column_stats_shape : Shape (ℕ × (Option IntegerStatistics × (Option StringStatistics ×
+abbrev pub column_stats_shape : FieldPairs (ℕ × (Option IntegerStatistics × (Option StringStatistics ×
     (Option BucketStatistics × (Option DateStatistics × (Option BinaryStatistics × (Option Bool × Option CollectionStatistics))))))) ColumnStats
 column_stats_shape = record {
   into = λ m.
@@ -217,9 +217,9 @@ column_stats_shape = record {
 }
 
 -- ColumnStatistics, with one of the statistics above by the column's kind
-abbrev pub column_stats : Member ColumnStats
-column_stats = shaped column_stats_shape
-    (last 0 (number 1)
+abbrev pub column_statistics : Member ColumnStats
+column_statistics = shaped column_stats_shape
+    (last 0 (number_part 1)
     and only integer_stats 0 2
     and only string_stats 0 4
     and only bucket_stats 0 5
@@ -229,7 +229,7 @@ column_stats = shaped column_stats_shape
     and only collection_stats 0 12)
 
 -- a stripe's statistics as those of its columns
-abbrev pub stripe_stats_shape : Shape (List ColumnStats) StripeStatistics
+abbrev pub stripe_stats_shape : FieldPairs (List ColumnStats) StripeStatistics
 stripe_stats_shape = record {
   into = λ m. m.col_stats;
   from = λ p. record { col_stats = p };
@@ -239,10 +239,10 @@ stripe_stats_shape = record {
 
 -- StripeStatistics: colStats 1
 abbrev pub stripe_stats : Member StripeStatistics
-stripe_stats = shaped stripe_stats_shape (each (message column_stats 0 1))
+stripe_stats = shaped stripe_stats_shape (each (message column_statistics 0 1))
 
 -- the metadata as the statistics of stripes
-abbrev pub metadata_shape : Shape (List StripeStatistics) Metadata
+abbrev pub metadata_shape : FieldPairs (List StripeStatistics) Metadata
 metadata_shape = record {
   into = λ m. m.stripe_stats;
   from = λ p. record { stripe_stats = p };
@@ -255,7 +255,7 @@ abbrev pub metadata : Member Metadata
 metadata = shaped metadata_shape (each (message stripe_stats 0 1))
 
 -- an entry of a row index as its positions and its statistics
-abbrev pub row_index_entry_shape : Shape (List ℕ × Option ColumnStats) RowIndexEntry
+abbrev pub row_index_entry_shape : FieldPairs (List ℕ × Option ColumnStats) RowIndexEntry
 row_index_entry_shape = record {
   into = λ m. (m.positions, m.statistics);
   from = λ p. record { positions = p.0; statistics = p.1 };
@@ -265,10 +265,10 @@ row_index_entry_shape = record {
 
 -- RowIndexEntry: positions 1, statistics 2
 abbrev pub row_index_entry : Member RowIndexEntry
-row_index_entry = shaped row_index_entry_shape (all (packed (2 ^ 64) 1) and only column_stats 0 2)
+row_index_entry = shaped row_index_entry_shape (every_value (packed (2 ^ 64) 1) and only column_statistics 0 2)
 
 -- a row index as its entries
-abbrev pub row_index_shape : Shape (List RowIndexEntry) RowIndexMsg
+abbrev pub row_index_shape : FieldPairs (List RowIndexEntry) RowIndexMsg
 row_index_shape = record {
   into = λ m. m.entries;
   from = λ p. record { entries = p };
@@ -281,7 +281,7 @@ abbrev pub row_index : Member RowIndexMsg
 row_index = shaped row_index_shape (each (message row_index_entry 0 1))
 
 -- a pair of user metadata as its name and its value
-abbrev pub user_metadata_shape : Shape (List ℕ × List ℕ) UserMetadataItem
+abbrev pub user_metadata_shape : FieldPairs (List ℕ × List ℕ) UserMetadataItem
 user_metadata_shape = record {
   into = λ m. (m.name, m.value);
   from = λ p. record { name = p.0; value = p.1 };
@@ -291,10 +291,10 @@ user_metadata_shape = record {
 
 -- UserMetadataItem: name 1, value 2
 abbrev pub user_metadata : Member UserMetadataItem
-user_metadata = shaped user_metadata_shape (last [] (text 1) and last [] (text 2))
+user_metadata = shaped user_metadata_shape (last [] (bytes_part 1) and last [] (bytes_part 2))
 
 -- a footer as its parts
-abbrev pub footer_shape : Shape (ℕ × (ℕ × (List StripeInfo × (List TypeMsg × (List UserMetadataItem ×
+abbrev pub footer_shape : FieldPairs (ℕ × (ℕ × (List StripeInfo × (List TypeMsg × (List UserMetadataItem ×
     (ℕ × (List ColumnStats × (ℕ × (Option ℕ × List ℕ))))))))) Footer
 footer_shape = record {
   into = λ m.
@@ -319,13 +319,13 @@ footer_shape = record {
 -- rowIndexStride 8, writer 9; other fields are kept as they are
 abbrev pub footer : Member Footer
 footer = shaped footer_shape
-    (last 0 (number 1)
-    and last 0 (number 2)
+    (last 0 (number_part 1)
+    and last 0 (number_part 2)
     and each (message stripe_info 0 3)
     and each (message type_msg 1 4)
     and each (message user_metadata 0 5)
-    and last 0 (number 6)
-    and each (message column_stats 0 7)
+    and last 0 (number_part 6)
+    and each (message column_statistics 0 7)
     and last 0 (small 8)
     and known (small 9)
-    and all (kept_from 10))
+    and every_value (kept_from 10))

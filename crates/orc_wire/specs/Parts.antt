@@ -7,7 +7,7 @@ use Rattle.orc_wire.specs.declared.fault.WireFault.{WireFault}
 use Rattle.orc_wire.specs.declared.fault.WireFault.TheVariants.{ValueRange, RepeatedMessage}
 use Rattle.orc_wire.specs.Fields.{Payload, varint, eight, four, sized, Item, fault_at}
 use Rattle.orc_wire.specs.Members.{Member}
-use Rattle.orc_wire.specs.Spells.{number_in, bytes_in, Spells, Faults}
+use Rattle.orc_wire.specs.Spells.{number_in, bytes_of_field, Spells, Faults}
 
 -- its number is not below the limit
 pub record IsTooLarge (limit : ℕ) (n : ℕ) (item : Item) (fault : WireFault) : Type 0 where
@@ -86,8 +86,8 @@ module _ {C : Type 0} (members : Member C) (required : ℕ) where
 
   -- why it is refused: its bytes spell none, or one was there before
   abbrev pub OnlyFails : ℕ → Item → Option C → WireFault → Type 0
-  OnlyFails n item None fault = MessageFails n item (bytes_in n item) fault
-  OnlyFails n item (Some c) fault = (b : List ℕ) × (bytes_in n item ≡ Some b) × (fault ≡ RepeatedMessage item.place)
+  OnlyFails n item None fault = MessageFails n item (bytes_of_field n item) fault
+  OnlyFails n item (Some c) fault = (b : List ℕ) × (bytes_of_field n item ≡ Some b) × (fault ≡ RepeatedMessage item.place)
 
 -- what was there, and what comes
 abbrev pub JoinsOnly : {V : Type 0} → Option V → Option V → Option V → Type 0

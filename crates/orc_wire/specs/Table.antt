@@ -5,7 +5,7 @@ use Rattle.std.specs.Option.{option_or, option_map, option_to_list, IfSome}
 use Rattle.std.specs.List.{AllByRecursion, AllZip}
 use Rattle.orc_wire.specs.Fields.{Item}
 use Rattle.orc_wire.specs.Members.{Member}
-use Rattle.orc_wire.specs.Spells.{number_in, bytes_in, Spells}
+use Rattle.orc_wire.specs.Spells.{number_in, bytes_of_field, Spells}
 use Rattle.orc_wire.specs.Parts.{inside}
 
 -- what the last field gives that gives something
@@ -56,17 +56,17 @@ pub record JoinsSome {V : Type 0} (gives : Item → Option V → Type 0)
   pub joined : values ≡ some_parts parts
 
 -- a field with number n that holds bytes, and these
-abbrev pub with_bytes : ℕ → Item → Option (Item × List ℕ)
-with_bytes n item = option_map (λ b. (item, b)) (bytes_in n item)
+abbrev pub with_field_bytes : ℕ → Item → Option (Item × List ℕ)
+with_field_bytes n item = option_map (λ b. (item, b)) (bytes_of_field n item)
 
 -- one field with number n holds bytes, which spell the message
 pub record IsOnly {C : Type 0} (members : Member C) (required n : ℕ) (fields : List Item) (content : C) : Type 0 where
   pub item : Item
   pub bytes : List ℕ
-  pub one : in_order (with_bytes n) fields ≡ (item, bytes) ∷ []
+  pub one : in_order (with_field_bytes n) fields ≡ (item, bytes) ∷ []
   pub spells : Spells members required (inside item bytes) bytes content
 
 -- no such field, or one
 abbrev pub OnlyMessage : {C : Type 0} → Member C → ℕ → ℕ → List Item → Option C → Type 0
-OnlyMessage members required n fields None = in_order (with_bytes n) fields ≡ []
+OnlyMessage members required n fields None = in_order (with_field_bytes n) fields ≡ []
 OnlyMessage members required n fields (Some content) = IsOnly members required n fields content

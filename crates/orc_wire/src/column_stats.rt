@@ -35,10 +35,10 @@ pub struct ColumnStats {
 }
 
 impl Message for ColumnStats {
-    ghost use Rattle.orc_wire.specs.Messages.{column_stats};
+    ghost use Rattle.orc_wire.specs.Messages.{column_statistics};
     ghost use Rattle.orc_wire.specs.CanonicalMessages.{column_stats_text, column_stats_complete};
 
-    ghost members = { column_stats };
+    ghost members = { column_statistics };
 
     ghost canonical = { column_stats_text };
 

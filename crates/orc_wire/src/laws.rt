@@ -25,8 +25,8 @@ ghost use Rattle.orc_wire.specs.declared.stripe_footer.StripeFooter.{StripeFoote
 ghost use Rattle.orc_wire.specs.declared.post_script.PostScript.{PostScript};
 ghost use Rattle.orc_wire.specs.declared.type_msg.TypeMsg.{TypeMsg};
 ghost use Rattle.orc_wire.specs.Fields.{varint, sized, Item, IsField, HasField, IsFields, NoField};
-ghost use Rattle.orc_wire.specs.Spells.{number_in, bytes_in, Spells, Faults};
-ghost use Rattle.orc_wire.specs.Kinds.{number, small, signed, small_signed, flag, text, packed, message, kept_from, last, known, all, each, only};
+ghost use Rattle.orc_wire.specs.Spells.{number_in, bytes_of_field, Spells, Faults};
+ghost use Rattle.orc_wire.specs.Kinds.{number_part, small, signed, small_signed, flag, bytes_part, packed, message, kept_from, last, known, every_value, each, only};
 ghost use Rattle.orc_wire.specs.Table.{newest, in_order, kept_texts, AreSmall, JoinsParts, JoinsSome, OnlyMessage};
 ghost use Rattle.orc_wire.specs.Messages.{type_msg, footer};
 ghost use Rattle.orc_wire.specs.CanonicalText.{number_text, sized_text, known_text, list_text, packed_text, shown_text};
@@ -63,14 +63,14 @@ pub fn field_laws()
 pub fn table_laws()
     // A number with a default is the last one of its field, or the default where there is none.
     ensures number_last { (n default : ℕ) (fields : List Item) (v : ℕ)
-        → (last default (number n)).says fields v ↔ (v ≡ unwrap_or (newest (number_in n) fields) default) }
+        → (last default (number_part n)).says fields v ↔ (v ≡ unwrap_or (newest (number_in n) fields) default) }
     // A number of 32 bits with a default is the same, and each number of its field has 32 bits.
     ensures small_last { (n default : ℕ) (fields : List Item) (v : ℕ)
         → (last default (small n)).says fields v
         ↔ ((v ≡ unwrap_or (newest (number_in n) fields) default) × AreSmall n fields) }
     // A text with a default is the last one of its field, or the default where there is none.
     ensures text_last { (n : ℕ) (default : List ℕ) (fields : List Item) (v : List ℕ)
-        → (last default (text n)).says fields v ↔ (v ≡ unwrap_or (newest (bytes_in n) fields) default) }
+        → (last default (bytes_part n)).says fields v ↔ (v ≡ unwrap_or (newest (bytes_of_field n) fields) default) }
 
     // A number of 32 bits that may be missing is the last one of its field, and each of them has 32
     // bits.
@@ -79,7 +79,7 @@ pub fn table_laws()
     // A number that may be missing is the last one of its field, and is missing where there is
     // none.
     ensures number_known { (n : ℕ) (fields : List Item) (v : Option ℕ)
-        → (known (number n)).says fields v ↔ (v ≡ newest (number_in n) fields) }
+        → (known (number_part n)).says fields v ↔ (v ≡ newest (number_in n) fields) }
     // A signed number is the one whose zigzag number is the last of its field, and is missing where
     // there is none.
     ensures signed_known { (n : ℕ) (fields : List Item) (v : Option ℤ)
@@ -93,17 +93,17 @@ pub fn table_laws()
         → (known (flag n)).says fields v ↔ (v ≡ option_map (λ k. not (k == 0)) (newest (number_in n) fields)) }
     // A text that may be missing is the last one of its field, and is missing where there is none.
     ensures text_known { (n : ℕ) (fields : List Item) (v : Option (List ℕ))
-        → (known (text n)).says fields v ↔ (v ≡ newest (bytes_in n) fields) }
+        → (known (bytes_part n)).says fields v ↔ (v ≡ newest (bytes_of_field n) fields) }
 
     // A list of numbers is what each of its fields gives, packed or plain, joined in order.
     ensures packed_list { (limit n : ℕ) (fields : List Item) (v : List ℕ)
-        → (all (packed limit n)).says fields v ↔ JoinsParts (packed limit n).gives fields v }
+        → (every_value (packed limit n)).says fields v ↔ JoinsParts (packed limit n).gives fields v }
     // A list of texts is all texts of its field, in order.
     ensures texts { (n : ℕ) (fields : List Item) (v : List (List ℕ))
-        → (each (text n)).says fields v ↔ (v ≡ in_order (bytes_in n) fields) }
+        → (each (bytes_part n)).says fields v ↔ (v ≡ in_order (bytes_of_field n) fields) }
     // What is kept is all fields from a number on, as they stood, in order.
     ensures kept { (n : ℕ) (fields : List Item) (v : List ℕ)
-        → (all (kept_from n)).says fields v ↔ (v ≡ kept_texts n fields) }
+        → (every_value (kept_from n)).says fields v ↔ (v ≡ kept_texts n fields) }
 {}
 
 /// Bytes spell one message at most, and where a fault applies none, and no other fault; whatever bytes

@@ -3,7 +3,7 @@ ghost use Rattle.std.specs.Prelude.{◌≡◌, [], ◌^◌, ◌⊎◌, IfErr, On
 ghost use Rattle.orc_wire.specs.declared.fault.WireFault.TheVariants.{OutOfMemory};
 ghost use Rattle.orc_wire.specs.FieldItem.{item_of};
 ghost use Rattle.orc_wire.specs.Parts.{FailsWithin, AppendsVarints};
-ghost use Rattle.orc_wire.specs.Kinds.{text, packed, kept_from, last, known, all, each};
+ghost use Rattle.orc_wire.specs.Kinds.{bytes_part, packed, kept_from, last, known, every_value, each};
 
 use crate::fault::{WireFault, fault_of};
 use crate::field::{Field, Value};
@@ -13,7 +13,7 @@ use std::alloc::Global;
 
 /// The last text, or none of its bytes.
 pub(crate) fn take_text(slot: &mut Bytes, n: u32, field: &Field) -> Result<(), WireFault>
-    ensures ok { OnOk result ((last [] (text n)).steps (item_of field.now) slot.old slot.new) }
+    ensures ok { OnOk result ((last [] (bytes_part n)).steps (item_of field.now) slot.old slot.new) }
     ensures fault { IfErr result (λ fault. fault ≡ OutOfMemory) }
 {
     if let Some(bytes) = field.bytes(n) {
@@ -29,7 +29,7 @@ pub(crate) fn take_texts(
     n: u32,
     field: &Field,
 ) -> Result<(), WireFault>
-    ensures ok { OnOk result ((each (text n)).steps (item_of field.now) slot.old slot.new) }
+    ensures ok { OnOk result ((each (bytes_part n)).steps (item_of field.now) slot.old slot.new) }
     ensures fault { IfErr result (λ fault. fault ≡ OutOfMemory) }
 {
     if let Some(bytes) = field.bytes(n) {
@@ -42,7 +42,7 @@ pub(crate) fn take_texts(
 
 /// Fields from a number on, as they stand.
 pub(crate) fn take_kept(slot: &mut Bytes, n: u32, field: &Field) -> Result<(), WireFault>
-    ensures ok { OnOk result ((all (kept_from n)).steps (item_of field.now) slot.old slot.new) }
+    ensures ok { OnOk result ((every_value (kept_from n)).steps (item_of field.now) slot.old slot.new) }
     ensures fault { IfErr result (λ fault. fault ≡ OutOfMemory) }
 {
     if field.number >= n {
@@ -75,9 +75,9 @@ fn take_varints(slot: &mut Items<u32>, bytes: &[u8], place: usize) -> Result<(),
 
 /// All parts of a packed list.
 pub(crate) fn take_packed(slot: &mut Items<u32>, n: u32, field: &Field) -> Result<(), WireFault>
-    ensures ok { OnOk result ((all (packed (2 ^ 32) n)).steps (item_of field.now) slot.old slot.new) }
+    ensures ok { OnOk result ((every_value (packed (2 ^ 32) n)).steps (item_of field.now) slot.old slot.new) }
     ensures fault { IfErr result (λ fault. (fault ≡ OutOfMemory)
-        ⊎ (all (packed (2 ^ 32) n)).refuses (item_of field.now) slot.old fault) }
+        ⊎ (every_value (packed (2 ^ 32) n)).refuses (item_of field.now) slot.old fault) }
 {
     if field.number != n {
         return Ok(());
@@ -102,7 +102,7 @@ pub(crate) fn take_known_text(
     n: u32,
     field: &Field,
 ) -> Result<(), WireFault>
-    ensures ok { OnOk result ((known (text n)).steps (item_of field.now) slot.old slot.new) }
+    ensures ok { OnOk result ((known (bytes_part n)).steps (item_of field.now) slot.old slot.new) }
     ensures fault { IfErr result (λ fault. fault ≡ OutOfMemory) }
 {
     if let Some(bytes) = field.bytes(n) {
@@ -133,9 +133,9 @@ fn take_wide_varints(slot: &mut Items<u64>, bytes: &[u8], place: usize) -> Resul
 
 /// All parts of a packed list of 64-bit numbers.
 pub(crate) fn take_packed_u64(slot: &mut Items<u64>, n: u32, field: &Field) -> Result<(), WireFault>
-    ensures ok { OnOk result ((all (packed (2 ^ 64) n)).steps (item_of field.now) slot.old slot.new) }
+    ensures ok { OnOk result ((every_value (packed (2 ^ 64) n)).steps (item_of field.now) slot.old slot.new) }
     ensures fault { IfErr result (λ fault. (fault ≡ OutOfMemory)
-        ⊎ (all (packed (2 ^ 64) n)).refuses (item_of field.now) slot.old fault) }
+        ⊎ (every_value (packed (2 ^ 64) n)).refuses (item_of field.now) slot.old fault) }
 {
     if field.number != n {
         return Ok(());

@@ -3,13 +3,14 @@ ghost use Rattle.std.specs.Prelude.{◌≡◌, ◌<◌, ◌^◌, ℕ, List, leng
 ghost use Rattle.orc_values.specs.Cells.{Cell};
 ghost use Rattle.orc_values.specs.Shapes.{Shape};
 ghost use Rattle.orc_types.specs.Schemas.{IsSchema};
-ghost use Rattle.orc_stripe_writer.specs.declared.options.Options.{Options};
+ghost use Rattle.orc_row_batch.specs.declared.options.Options.{Options};
 ghost use Rattle.orc_io.specs.Devices.{appended};
 ghost use Rattle.orc_tail.specs.Tails.{IsTail};
 ghost use Rattle.orc_tail.specs.Images.{types_text};
-ghost use Rattle.orc_file.specs.FileRows.{FileIs};
-ghost use Rattle.orc_file.specs.Honest.{Honest, HasWholeStats};
-ghost use Rattle.orc_file.specs.Writing.{IsWrittenFile, IsWhole, IsCutOff, IsFrontOfFile};
+ghost use Rattle.orc_file_reader.specs.FileRows.{FileIs};
+ghost use Rattle.orc_file_reader.specs.Honest.{Honest, HasWholeStats};
+ghost use Rattle.orc_file_writer.specs.Writing.{IsWrittenFile, WroteWholeFile, IsCutOff};
+ghost use Rattle.orc_file.specs.FrontOfFile.{IsFrontOfFile};
 ghost use Rattle.orc_tail.specs.declared.tail.Tail.{Tail};
 
 /// What a writer wrote of rows is a file with the tail that the writer answered and these rows: so opening it
@@ -22,7 +23,7 @@ pub fn written_laws()
     // Where the output tells its bytes, what a writer finished there is laid out as a written file,
     // and is a file of the tail that was answered and of the rows that were pushed.
     ensures read { (options : Options) (s : Shape) (tail : Tail) (first told : Option (List ℕ)) (rows : List Cell)
-        → IsWhole options s tail first told rows → (bytes : List ℕ) × (told ≡ appended first bytes)
+        → WroteWholeFile options s tail first told rows → (bytes : List ℕ) × (told ≡ appended first bytes)
         × IsWrittenFile options s tail bytes rows
         × FileIs bytes tail rows }
     // Where the schema is one, any bytes that are laid out so, fewer than 2^64, are a file with

@@ -14,9 +14,9 @@ pub struct Bins {
 }
 
 impl Sizes for Bins {
-    ghost use Rattle.orc_stats.specs.Sizes.{size};
+    ghost use Rattle.orc_stats.specs.Sizes.{total_size};
 
-    ghost size = { λ p. size p.sum };
+    ghost size = { λ p. total_size p.sum };
 }
 
 impl<'r> Measures<'r> for Bins {
@@ -24,8 +24,8 @@ impl<'r> Measures<'r> for Bins {
     ghost use Rattle.orc_stats.specs.declared.seen.Seen.{Seen};
     ghost use Rattle.orc_stats.specs.declared.kind.StatKind.TheVariants as kind_name;
     ghost use Rattle.orc_stats.specs.Measures as tally;
-    ghost use Rattle.orc_stats.specs.OwnCells.{bins_childless};
-    ghost use Rattle.orc_stats.specs.TallyKinds.{bins_cells, bins_stats};
+    ghost use Rattle.orc_stats.specs.laws.OwnCells.{bins_childless};
+    ghost use Rattle.orc_stats.specs.laws.TallyKinds.{bins_cells, bins_stats};
 
     ghost Parts = { Seen ℤ };
 

@@ -24,8 +24,8 @@ impl<'r> Measures<'r> for Bools {
     ghost use Rattle.orc_stats.specs.declared.seen.Seen.{Seen};
     ghost use Rattle.orc_stats.specs.declared.kind.StatKind.TheVariants as kind_name;
     ghost use Rattle.orc_stats.specs.Measures as tally;
-    ghost use Rattle.orc_stats.specs.OwnCells.{bools_childless};
-    ghost use Rattle.orc_stats.specs.TallyKinds.{bools_cells, bools_stats};
+    ghost use Rattle.orc_stats.specs.laws.OwnCells.{bools_childless};
+    ghost use Rattle.orc_stats.specs.laws.TallyKinds.{bools_cells, bools_stats};
 
     ghost Parts = { Seen ℕ };
 

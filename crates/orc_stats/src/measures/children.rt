@@ -27,12 +27,12 @@ impl<'r> Measures<'r> for Children {
     ghost use Rattle.orc_stats.specs.declared.seen.Seen.{Seen};
     ghost use Rattle.orc_stats.specs.declared.kind.StatKind.TheVariants as kind_name;
     ghost use Rattle.orc_stats.specs.Measures as tally;
-    ghost use Rattle.orc_stats.specs.OwnCells.{children_childless};
-    ghost use Rattle.orc_stats.specs.TallyKinds.{children_cells, children_stats};
+    ghost use Rattle.orc_stats.specs.laws.OwnCells.{children_childless};
+    ghost use Rattle.orc_stats.specs.laws.TallyKinds.{children_cells, children_stats};
 
     ghost Parts = { Seen ℕ × (Seen ℕ × Seen ℕ) };
 
-    ghost measure = { tally.children };
+    ghost measure = { tally.child_numbers };
 
     ghost parts = { λ p. (p.least, (p.greatest, p.total)) };
 

@@ -22,8 +22,8 @@ impl<'r> Measures<'r> for Dates {
     ghost use Rattle.orc_stats.specs.declared.seen.Seen.{Seen};
     ghost use Rattle.orc_stats.specs.declared.kind.StatKind.TheVariants as kind_name;
     ghost use Rattle.orc_stats.specs.Measures as tally;
-    ghost use Rattle.orc_stats.specs.OwnCells.{dates_childless};
-    ghost use Rattle.orc_stats.specs.TallyKinds.{dates_cells, dates_stats};
+    ghost use Rattle.orc_stats.specs.laws.OwnCells.{dates_childless};
+    ghost use Rattle.orc_stats.specs.laws.TallyKinds.{dates_cells, dates_stats};
 
     ghost Parts = { Seen ℤ × Seen ℤ };
 

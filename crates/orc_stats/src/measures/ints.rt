@@ -16,9 +16,9 @@ pub struct Ints {
 }
 
 impl Sizes for Ints {
-    ghost use Rattle.orc_stats.specs.Sizes.{size};
+    ghost use Rattle.orc_stats.specs.Sizes.{total_size};
 
-    ghost size = { λ p. size p.sum };
+    ghost size = { λ p. total_size p.sum };
 }
 
 impl<'r> Measures<'r> for Ints {
@@ -26,8 +26,8 @@ impl<'r> Measures<'r> for Ints {
     ghost use Rattle.orc_stats.specs.declared.kind.StatKind.TheVariants as kind_name;
     ghost use Rattle.orc_stats.specs.declared.seen.Seen.{Seen};
     ghost use Rattle.orc_stats.specs.Measures as tally;
-    ghost use Rattle.orc_stats.specs.OwnCells.{ints_childless};
-    ghost use Rattle.orc_stats.specs.TallyKinds.{ints_cells, ints_stats};
+    ghost use Rattle.orc_stats.specs.laws.OwnCells.{ints_childless};
+    ghost use Rattle.orc_stats.specs.laws.TallyKinds.{ints_cells, ints_stats};
 
     ghost Parts = { Seen ℤ × (Seen ℤ × Seen ℤ) };
 

@@ -16,12 +16,12 @@ impl Sizes for Plain {
 impl<'r> Measures<'r> for Plain {
     ghost use Rattle.orc_stats.specs.declared.kind.StatKind.TheVariants as kind_name;
     ghost use Rattle.orc_stats.specs.Measures as tally;
-    ghost use Rattle.orc_stats.specs.OwnCells.{plain_childless};
-    ghost use Rattle.orc_stats.specs.TallyKinds.{plain_cells, plain_stats};
+    ghost use Rattle.orc_stats.specs.laws.OwnCells.{plain_childless};
+    ghost use Rattle.orc_stats.specs.laws.TallyKinds.{plain_cells, plain_stats};
 
     ghost Parts = { Unit {0} };
 
-    ghost measure = { tally.plain };
+    ghost measure = { tally.no_measure };
 
     ghost parts = { λ p. tt };
 

@@ -18,9 +18,9 @@ pub struct Texts<'r> {
 }
 
 impl<'r> Sizes for Texts<'r> {
-    ghost use Rattle.orc_stats.specs.Sizes.{size};
+    ghost use Rattle.orc_stats.specs.Sizes.{total_size};
 
-    ghost size = { λ p. size p.sum };
+    ghost size = { λ p. total_size p.sum };
 }
 
 impl<'r> Measures<'r> for Texts<'r> {
@@ -29,8 +29,8 @@ impl<'r> Measures<'r> for Texts<'r> {
     ghost use Rattle.orc_stats.specs.Seen.{seen_now};
     ghost use Rattle.orc_stats.specs.declared.kind.StatKind.TheVariants as kind_name;
     ghost use Rattle.orc_stats.specs.Measures as tally;
-    ghost use Rattle.orc_stats.specs.OwnCells.{texts_childless};
-    ghost use Rattle.orc_stats.specs.TallyKinds.{texts_cells, texts_stats};
+    ghost use Rattle.orc_stats.specs.laws.OwnCells.{texts_childless};
+    ghost use Rattle.orc_stats.specs.laws.TallyKinds.{texts_cells, texts_stats};
 
     ghost Parts = { Seen (List ℕ) × (Seen (List ℕ) × Seen ℤ) };
 

@@ -9,17 +9,14 @@ ghost use Rattle.orc_tail.specs.declared.fault.FileFault.TheVariants.{OutOfMemor
 use crate::fault::FileFault;
 use crate::tail::extent::stripe_end;
 use crate::tail::statistics::{stats_in, stripe_stats_in};
-use orc_column_reader::MOST_CELLS;
 use orc_stats::Stat;
 use orc_types::Schema;
+use orc_values::MOST_STRIPE_ROWS;
 use orc_wire::{Footer, Items, Metadata, StripeInfo};
 use std::alloc::Global;
 
 /// The most stripes of a file.
 pub const MOST_STRIPES: usize = 65_536;
-
-/// The most rows of a stripe.
-pub const MOST_STRIPE_ROWS: u64 = MOST_CELLS;
 
 /// The most rows of a file.
 pub const MOST_ROWS: u64 = 1 << 40;

@@ -6,7 +6,7 @@ ghost use Rattle.orc_io.specs.Leaves.{LeavesSource};
 ghost use Rattle.std.specs.Bool.{OnTrue, OnFalse};
 ghost use Rattle.orc_tail.specs.Layout.{magic, postscript_length, postscript_place};
 ghost use Rattle.orc_tail.specs.Stripes.{AllBefore};
-ghost use Rattle.orc_tail.specs.Tails.{most_versions, end_tests, IsTail, OpenFault, ReadFault, IsOfTail};
+ghost use Rattle.orc_tail.specs.Tails.{most_versions, end_tests, IsTail, TailOpenFault, ReadFault, IsOfTail};
 ghost use Rattle.orc_tail.specs.Caps.{no_cap, IsCappedTail, CappedFault};
 ghost use Rattle.orc_tail.specs.Images.{IsWithinLimits};
 ghost use Rattle.orc_tail.specs.declared.fault.FileFault.TheVariants.{SourceFailed, OutOfMemory};
@@ -209,7 +209,7 @@ pub fn read_tail<S: Source>(alloc: Global, source: &mut S) -> Result<Tail, FileF
 
     // If the source's bytes are known, then an error is `OutOfMemory`, `SourceFailed`, or the fault of the first test
     // of a tail that the bytes fail.
-    ensures fault { IfErr result (λ fault. ReadFault (S.told source.old) fault (λ bytes. OpenFault bytes fault)) }
+    ensures fault { IfErr result (λ fault. ReadFault (S.told source.old) fault (λ bytes. TailOpenFault bytes fault)) }
     // An error is `SourceFailed`, or the source's count of failures is unchanged and the error is `NotOrc`,
     // `BadPostscript`, `Compressed` with a kind other than 0, `Encrypted`, `BadLengths`, `BadFooter`, `BadMetadata`,
     // `BadTypes` with a fault other than `OutOfMemory`, `BadStripe` with a number below 65,536, `RowCount`, `Limit` or

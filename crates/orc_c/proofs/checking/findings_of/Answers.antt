@@ -1,7 +1,7 @@
 use Rattle.std.proofs.Common.{◌≡◌, ◌≢◌, ◌++◌, ◌⊎◌, ◌<◌, ℕ, List, length, ap, Err, arith}
 use Rattle.orc_values.specs.Cells.{Cell}
 use Rattle.orc_tail.specs.declared.tail.Tail.{Tail}
-use Rattle.orc_file.specs.FileRows.{FileIs}
+use Rattle.orc_file_reader.specs.FileRows.{FileIs}
 use Rattle.orc_cli_output.specs.Output.{write_failed}
 use Rattle.orc_cli_check.specs.Lines.{finding_lines, IsFoundOf, IsNotChecked, IsSourceOrMemory}
 use Rattle.orc_c.proofs.ToldLemmas.{at_file, not_checked}

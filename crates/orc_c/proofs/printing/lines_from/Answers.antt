@@ -1,10 +1,10 @@
 use Rattle.std.proofs.Common.{◌<◌, ℕ, List, Some, ap, Err, arith}
 use Rattle.orc_values.specs.Cells.{Cell}
 use Rattle.orc_tail.specs.declared.tail.Tail.{Tail}
-use Rattle.orc_file.specs.FileRows.{FileIs}
+use Rattle.orc_file_reader.specs.FileRows.{FileIs}
 use Rattle.orc_cli_output.specs.Output.{IsOutsideFile}
 use Rattle.orc_cli_rows.specs.Rows.{HaveJson}
-use Rattle.orc_cli_rows.specs.Printed.{IsAsked, ArePrinted, Refuses}
+use Rattle.orc_cli_rows.specs.Printed.{IsAsked, ArePrinted, RefusesPlace}
 use Rattle.orc_c.proofs.ToldLemmas.{at_file, not_printed}
 use Rattle.orc_c.proofs.printing.lines_from.Goals as goal
 
@@ -19,7 +19,7 @@ returns-in-Err-clause-refused c =
     let e = c.in-Err.ensures in
     let was = c.in-Err.fault in
     let lines = c.rows_to.new.out.items in
-    let Why : List ℕ → List ℕ → Type 0 = λ b o. Refuses b c.args.from (Some o) (Some lines) was in
+    let Why : List ℕ → List ℕ → Type 0 = λ b o. RefusesPlace b c.args.from (Some o) (Some lines) was in
     let Only : List ℕ → List ℕ → Type 0 = λ b o. (tail : Tail) (rows : List Cell) → FileIs b tail rows → HaveJson tail.schema rows → IsOutsideFile was in
     not_printed _ lines _ was _ c.told_of.ensures (λ failed. let rose : 0 < 0 = e.source.failed (ap Err failed) in omega (arith, rose))
     (at_file _ _ _ Why c.new.ensures.told c.new-lines.ensures.items e.refused)

@@ -2,8 +2,8 @@ use Rattle.std.proofs.Common.{◌≡◌, ◌∙◌, ◌+◌, ◌<◌, List, [], 
 use Rattle.std.proofs.lemmas.Result.{err_from_is_err_and}
 use Rattle.orc_stats.specs.declared.stat.Stat.{Stat}
 use Rattle.orc_check.specs.declared.finding.Finding.{Finding}
-use Rattle.orc_file.specs.Honest.{AreWhole}
-use Rattle.orc_check.specs.Checking.{AreOwn}
+use Rattle.orc_file_reader.specs.Honest.{AreWhole}
+use Rattle.orc_check.specs.Checking.{AreOwnStats}
 use Rattle.orc_check.proofs.Checked.{AreChecked}
 use Rattle.orc_check.proofs.CheckLemmas.{none_checked, none_told, more_checked, more_told, stripe_refused, stripes_named, file_found, are_own}
 use Rattle.orc_check.proofs.checking.check_tail.Goals as goal
@@ -68,7 +68,7 @@ returns-clause-found g c =
     let few = limits.stripes in
     let own = are_own tail n d.0 d.1 c.loop-number.found.items c.loop-number.own.items (omega (arith, few, end)) d.2 in
     let told_of = tail.stripe_stats in
-    let whole : AreWhole tail.schema told_of d.1 c.in_ok-whole.whole.items = c.in_ok-whole.ensures.1 told_of d.1 (subst (λ (xs : List (List Stat)). AreOwn tail.schema told_of d.1 xs) (sym c.deref.ensures.value) own) in
+    let whole : AreWhole tail.schema told_of d.1 c.in_ok-whole.whole.items = c.in_ok-whole.ensures.1 told_of d.1 (subst (λ (xs : List (List Stat)). AreOwnStats tail.schema told_of d.1 xs) (sym c.deref.ensures.value) own) in
     file_found told tail n d.0 d.1 c.loop-number.found.items c.check_file.new.found.items c.loop-number.own.items end d.2 d.3
     (c.in_ok-check_file.ensures d.1 (subst (λ (xs : List Stat). AreWhole tail.schema told_of d.1 xs) (sym c.deref-2.ensures.value) whole))
 

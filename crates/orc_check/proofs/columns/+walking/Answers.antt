@@ -6,7 +6,7 @@ use Rattle.orc_values.proofs.ByColumn.{width_within}
 use Rattle.orc_values.proofs.Listed.{widths_from}
 use Rattle.orc_values.proofs.Views.{shape-Scalar, shape-List, shape-Map, shape-Struct}
 use Rattle.orc_column_reader.specs.Stripe.{columns_of}
-use Rattle.orc_column_reader.proofs.Arms.{some_width}
+use Rattle.orc_values.proofs.Widths.{some_width}
 use Rattle.orc_column_reader.proofs.Handed.{if_ok, on_ok, if_err}
 use Rattle.orc_column_walk.proofs.TreeLemmas.{scalar_down, list_down, map_down, struct_down, list_refused, keys_refused, seconds_refused, struct_refused, refused_here, none_read, field_read, field_refused}
 use Rattle.orc_check.proofs.WalkLemmas.{scalar_checked, list_checked, map_checked, struct_checked, no_field_checked, field_checked, fields_checked}

@@ -3,7 +3,7 @@ use Rattle.std.proofs.lemmas.Result.{err_from_is_err_and}
 use Rattle.orc_values.specs.Shapes.{width}
 use Rattle.orc_values.specs.Views.{shape}
 use Rattle.orc_column_reader.specs.Stripe.{columns_of}
-use Rattle.orc_column_reader.proofs.Arms.{some_width}
+use Rattle.orc_values.proofs.Widths.{some_width}
 use Rattle.orc_check.proofs.OwnCells.{own_groups}
 use Rattle.orc_check.proofs.WalkLemmas.{columns_there, located_there, read_there, refused_there, below_of, below_grouped, found_here, column_more}
 use Rattle.orc_check.proofs.columns.add_column.Goals as goal

@@ -8,12 +8,12 @@ use Rattle.orc_stats.specs.Statistics.{stat}
 use Rattle.orc_stats.specs.declared.stat.Stat.{Stat}
 use Rattle.orc_column_reader.specs.Stripe.{columns_of}
 use Rattle.orc_column_walk.specs.declared.found.GroupFound.{GroupFound}
-use Rattle.orc_stripe_writer.specs.WrittenStripe.{column_stat}
+use Rattle.orc_stats.specs.ColumnStatistics.{column_stat}
 use Rattle.orc_check.specs.declared.finding.Finding.TheVariants.{StripeStatistic}
 use Rattle.orc_check.specs.Agreeing.{Tells}
 use Rattle.orc_check.specs.Findings.{Unless, TellsStripe, OfIndex}
 use Rattle.orc_check.specs.OwnGroups.{HaveCells}
-use Rattle.orc_check.specs.Walking.{AreGroupsFound}
+use Rattle.orc_check.specs.Walking.{AreColumnGroupsFound}
 use Rattle.orc_check.proofs.ReportLemmas.{adds_both, adds_report}
 use Rattle.orc_check.proofs.columns.check_column.Goals as goal
 
@@ -34,4 +34,4 @@ returns-in_ok-check_index c = λ rows h.
     let some : 0 < v.stride = omega (arith, c.if-stride-gt0.true, c.stride.ensures) in
     adds_both (Unless (TellsStripe v.schema s.told.now rows column) (StripeStatistic s.number column)) (OfIndex v s.number rows column) c.args.found.now.items c.report.new.found.items c.check_index.new.found.items
     (adds_report (TellsStripe v.schema s.told.now rows column) c.tells.result (StripeStatistic s.number column) c.args.found.now.items c.report.new.found.items tells c.in_ok-report.ensures)
-    (c.in_ok-check_index.ensures rows some h.counted (λ may. subst (λ (gs : List GroupFound). AreGroupsFound v rows column t gs) (sym c.deref.ensures.value) (h.groups may)))
+    (c.in_ok-check_index.ensures rows some h.counted (λ may. subst (λ (gs : List GroupFound). AreColumnGroupsFound v rows column t gs) (sym c.deref.ensures.value) (h.groups may)))

@@ -4,7 +4,7 @@ use Rattle.orc_values.specs.Shapes.{width}
 use Rattle.orc_values.specs.Views.{shape}
 use Rattle.orc_stats.specs.declared.stat.Stat.{Stat}
 use Rattle.orc_check.specs.Checking.{HaveKnown}
-use Rattle.orc_column_reader.specs.Located.{AreLocated}
+use Rattle.orc_directory.specs.Located.{AreLocated}
 use Rattle.orc_check.proofs.WalkLemmas.{all_found, all_refused, all_many}
 use Rattle.orc_check.proofs.columns.check_columns.Goals as goal
 

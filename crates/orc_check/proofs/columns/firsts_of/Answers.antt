@@ -1,9 +1,9 @@
 use Rattle.std.proofs.Common.{◌<◌, List, ℕ, sym, ap, subst, ◌∙◌, arith}
-use Rattle.orc_row_index.specs.Bounds.{AreBounds, bound_at}
-use Rattle.orc_stripe_writer.proofs.GroupLemmas.{starts_are_bounds}
+use Rattle.orc_row_groups.specs.Bounds.{AreBounds, bound_at}
+use Rattle.orc_row_groups.proofs.GroupLemmas.{starts_are_bounds}
 use Rattle.orc_check.proofs.GroupBounds.{ok_so}
-use Rattle.orc_check.proofs.WalkLemmas.{first_start}
 use Rattle.orc_check.proofs.columns.firsts_of.Goals as goal
+use Rattle.orc_row_groups.proofs.BoundLemmas.{first_start}
 
 pub returns-then-need_groups-clause-bounds : goal.returns-then-need_groups-clause-bounds
 returns-then-need_groups-clause-bounds c =

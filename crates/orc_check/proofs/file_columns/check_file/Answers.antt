@@ -2,11 +2,11 @@ use Rattle.std.proofs.Common.{◌≡◌, ◌∙◌, ℕ, ◌<◌, List, slice_ge
 use Rattle.std.specs.Prelude.{MatchBool}
 use Rattle.orc_values.specs.Shapes.{width}
 use Rattle.orc_stats.specs.declared.stat.Stat.{Stat}
-use Rattle.orc_file.specs.Honest.{known_whole_of}
+use Rattle.orc_file_reader.specs.Honest.{known_whole_of}
 use Rattle.std.proofs.lemmas.Option.{get_or_from_slice_get}
 use Rattle.orc_check.specs.declared.finding.Finding.TheVariants.{FileStatistic}
 use Rattle.orc_check.specs.Agreeing.{Tells}
-use Rattle.orc_check.specs.Findings.{Adds, Unless, OfEach, TellsFile}
+use Rattle.orc_check.specs.Findings.{AddsFindings, Unless, OfEach, TellsFile}
 use Rattle.orc_check.proofs.ReportLemmas.{adds_next, adds_report}
 use Rattle.orc_check.proofs.file_columns.check_file.Goals as goal
 
@@ -32,4 +32,4 @@ pub returns : goal.returns
 returns c = λ parts whole.
     let tail = c.args.tail.now in
     let end : c.loop-column.column ≡ width tail.schema = omega (arith, c.loop-column-test.false, c.loop-column.auto.column-end, c.requires.many) in
-    subst (λ (k : ℕ). Adds (OfEach (λ j. Unless (TellsFile tail parts j) (FileStatistic j)) k) c.args.found.now.items c.loop-column.found.items) end (c.loop-column.invariant.found parts whole)
+    subst (λ (k : ℕ). AddsFindings (OfEach (λ j. Unless (TellsFile tail parts j) (FileStatistic j)) k) c.args.found.now.items c.loop-column.found.items) end (c.loop-column.invariant.found parts whole)

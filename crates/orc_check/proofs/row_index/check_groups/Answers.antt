@@ -4,10 +4,10 @@ use Rattle.std.proofs.lemmas.Option.{slice_get_read, slice_get-get_or}
 use Rattle.orc_wire.specs.declared.row_index.RowIndexEntry.{RowIndexEntry}
 use Rattle.orc_values.specs.Views.{shape}
 use Rattle.orc_column_walk.specs.declared.found.GroupFound.{GroupFound}
-use Rattle.orc_row_index.specs.Bounds.{before_group, group_of}
+use Rattle.orc_row_groups.specs.Bounds.{before_group, group_of}
 use Rattle.orc_row_index.specs.Positions.{AreReadPositions}
 use Rattle.orc_check.specs.declared.finding.Finding.TheVariants.{IndexStatistic, IndexPosition}
-use Rattle.orc_check.specs.Findings.{Adds, Unless, OfEach, OfGroup, IndexedColumn, HasRightStatistic, HasRightPositions, TellsGroup, entry_at}
+use Rattle.orc_check.specs.Findings.{AddsFindings, Unless, OfEach, OfGroup, IndexedColumn, HasRightStatistic, HasRightPositions, TellsGroup, entry_of_group}
 use Rattle.orc_check.proofs.GroupBounds.{get_or_any}
 use Rattle.orc_check.proofs.ReportLemmas.{adds_next, adds_both, adds_report}
 use Rattle.orc_check.proofs.row_index.check_groups.Goals as goal
@@ -23,7 +23,7 @@ loop-group-preserved c = λ streams cells bounds fit few are decided.
     let none : RowIndexEntry = record { positions = []; statistics = None } in
     let here : g < length es = omega (arith, c.loop-group-test.true) in
     let read = c.index-entries-group.result in
-    let entry : read ≡ entry_at es g = c.index-entries-group.is ∙ get_or_any es g read none here in
+    let entry : read ≡ entry_of_group es g = c.index-entries-group.is ∙ get_or_any es g read none here in
     let group = are g c.index-groups-group.result (slice_get_read c.args.groups.now (length c.args.groups.now) g c.index-groups-group.result refl (omega (arith, here, c.requires)) c.index-groups-group.is) in
     let tells = c.entry_tells-tells.result in
     let told_read : MatchBool tells (TellsGroup s (group_of cells bounds g) read) (TellsGroup s (group_of cells bounds g) read → ⊥) =
@@ -45,5 +45,5 @@ pub returns : goal.returns
 returns c = λ streams cells bounds fit few are decided.
     let x : IndexedColumn = record { shape = shape c.args.tree.now; streams = streams; cells = cells; bounds = bounds; entries = c.args.entries.now } in
     let end : c.loop-group.group ≡ length c.args.entries.now = omega (arith, c.loop-group-test.false, c.loop-group.auto.group-end) in
-    subst (λ (k : ℕ). Adds (OfEach (OfGroup x c.args.number c.args.column) k) c.args.found.now.items c.loop-group.found.items) end
+    subst (λ (k : ℕ). AddsFindings (OfEach (OfGroup x c.args.number c.args.column) k) c.args.found.now.items c.loop-group.found.items) end
     (c.loop-group.invariant streams cells bounds fit few are decided)

@@ -2,7 +2,7 @@ use Rattle.std.specs.Option.{IfSome}
 use Rattle.std.proofs.Common.{rules, Bool, Option, Ok, ◌∙◌, List, sym, ap, subst, arith}
 use Rattle.orc_wire.specs.declared.row_index.RowIndexMsg.{RowIndexMsg}
 use Rattle.orc_row_index_check.specs.Decided.{AreDecided}
-use Rattle.orc_stripe.specs.IndexTexts.{IsMessage}
+use Rattle.orc_stripe_reader.specs.IndexTexts.{IsMessage}
 use Rattle.orc_values.specs.Views.{shape}
 use Rattle.orc_column_reader.specs.Stripe.{columns_of}
 use Rattle.orc_check.proofs.GroupBounds.{on_ok_so}

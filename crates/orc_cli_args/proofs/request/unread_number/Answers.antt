@@ -1,4 +1,4 @@
-use Rattle.std.proofs.Common.{◌≡◌, ◌∙◌, List, ℕ, true, false, inl, inr, refl, sym, codes}
+use Rattle.std.proofs.Common.{◌≡◌, ◌∙◌, true, false, inl, inr, refl, sym, codes}
 use Rattle.clap.specs.Matches.{found_of}
 use Rattle.orc_cli_args.specs.Requests.{IsUnread}
 use Rattle.orc_cli_args.proofs.RequestLemmas.{unread_there, unread_found, none_unread}

@@ -2,14 +2,14 @@ use Rattle.std.proofs.Common.{◌≡◌, List, ℕ, ℤ, refl, ap, subst, ◌∙
 use Rattle.std.proofs.lemmas.Result.{err_from_is_err_and, IfErr-weaker}
 use Rattle.orc_rle.specs.declared.sign.Rle.{Rle}
 use Rattle.orc_rle.specs.declared.sign.Sign.{Sign}
-use Rattle.orc_cli_ints.specs.Ints.{number_line, SpellsInts, RefusesInts}
+use Rattle.orc_cli_ints.specs.Ints.{number_line, DigitsSpellInts, RefusesInts}
 use Rattle.orc_cli_output.specs.Output.{AppendsPart, write_failed}
 use Rattle.orc_cli_output.specs.declared.fault.CliFault.{CliFault}
 use Rattle.orc_cli_output.proofs.OutputLemmas.{outside_from}
 use Rattle.orc_cli_ints.proofs.IntsLemmas.{digits_want, output_want}
 use Rattle.orc_cli_ints.proofs.ints.ints_to.Goals as goal
 
-output_refused : (r : Result (Unit {0}) CliFault) (rle : Rle) (sign : Sign) (text : List ℕ) (values : List ℤ) → SpellsInts rle sign text values → IfErr r (λ fault. fault ≡ write_failed)
+output_refused : (r : Result (Unit {0}) CliFault) (rle : Rle) (sign : Sign) (text : List ℕ) (values : List ℤ) → DigitsSpellInts rle sign text values → IfErr r (λ fault. fault ≡ write_failed)
     → IfErr r (RefusesInts rle sign text)
 output_refused (Ok _) rle sign text values is failed = tt
 output_refused (Err fault) rle sign text values is failed = inr (failed, (values, is))

@@ -1,7 +1,7 @@
 use Rattle.std.specs.Prelude.{◌≡◌}
 use Rattle.orc_column_text.specs.LaidOut.{IsLaidOut}
-use Rattle.orc_json.specs.Layouts.{text_by}
-use Rattle.orc_stripe.specs.Cursors.{row_type}
+use Rattle.orc_json_printer.specs.Layouts.{text_by}
+use Rattle.orc_stripe_reader.specs.Cursors.{row_type}
 use Rattle.orc_cli_rows.specs.Pieces.{IsHeld}
 use Rattle.orc_cli_rows.proofs.CursorLemmas.{Filling}
 use Rattle.orc_cli_rows.proofs.lines.hold_lines.Given as goal

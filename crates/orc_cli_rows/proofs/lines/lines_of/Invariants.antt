@@ -1,5 +1,5 @@
 use Rattle.std.proofs.Common.{◌≡◌, ◌++◌, ◌⊎◌, drop, true}
-use Rattle.orc_types.specs.FieldNames.{is_distinct}
+use Rattle.orc_json_rows.specs.FieldNames.{is_distinct}
 use Rattle.orc_values.specs.Fits.{RowsFit}
 use Rattle.orc_values.specs.Views.{views}
 use Rattle.orc_cli_rows.specs.Rows.{row_lines}

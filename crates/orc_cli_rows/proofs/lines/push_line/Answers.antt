@@ -1,7 +1,7 @@
 use Rattle.std.proofs.Common.{ℕ, List, [], ◌∷◌, ◌++◌, ap, ◌∙◌, append_assoc}
 use Rattle.serde_json.specs.Written.{compact_text}
 use Rattle.orc_values.specs.Views.{view}
-use Rattle.orc_types.specs.JsonPrinting.{json_of}
+use Rattle.orc_json_rows.specs.JsonPrinting.{json_of}
 use Rattle.orc_cli_rows.proofs.lines.push_line.Goals as goal
 
 pub returns-clause-found : goal.returns-clause-found

@@ -1,5 +1,5 @@
 use Rattle.std.proofs.Common.{List, ℕ, [], ◌++◌, ap, ◌∙◌}
-use Rattle.orc_json.specs.Layouts.{text_by}
+use Rattle.orc_json_printer.specs.Layouts.{text_by}
 use Rattle.orc_cli_rows.specs.Pieces.{text_lines}
 use Rattle.orc_cli_rows.proofs.CursorLemmas.{both_lines}
 use Rattle.orc_cli_rows.proofs.one_stripe.hold_front.Goals as goal

@@ -1,5 +1,5 @@
 use Rattle.std.proofs.Common.{refl}
-use Rattle.orc_json.specs.Layouts.{text_by}
+use Rattle.orc_json_printer.specs.Layouts.{text_by}
 use Rattle.orc_cli_rows.specs.Pieces.{text_lines}
 use Rattle.orc_cli_rows.proofs.StripeLemmas.{all_answered, all_refused}
 use Rattle.orc_cli_rows.proofs.one_stripe.print_judged.Goals as goal

@@ -1,5 +1,5 @@
 use Rattle.std.proofs.Common.{rules, [], ◌++◌}
-use Rattle.orc_json.specs.Layouts.{text_by}
+use Rattle.orc_json_printer.specs.Layouts.{text_by}
 use Rattle.orc_cli_rows.specs.Pieces.{text_lines}
 use Rattle.orc_cli_rows.proofs.PieceLemmas.{given_behind, sent_good, sent_part}
 use Rattle.orc_cli_rows.proofs.one_stripe.print_pieces.Goals as goal

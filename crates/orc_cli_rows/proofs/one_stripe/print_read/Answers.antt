@@ -1,5 +1,5 @@
 use Rattle.std.proofs.Common.{◌∙◌, sym}
-use Rattle.orc_json.specs.Layouts.{text_by}
+use Rattle.orc_json_printer.specs.Layouts.{text_by}
 use Rattle.orc_cli_rows.proofs.PieceLemmas.{ok_of}
 use Rattle.orc_cli_rows.proofs.StripeLemmas.{all_answered, all_refused}
 use Rattle.orc_cli_rows.proofs.one_stripe.print_read.Goals as goal

@@ -1,7 +1,8 @@
 use Rattle.std.proofs.Common.{inr}
 use Rattle.std.proofs.lemmas.Result.{err_from_is_err_and, IfErr-weaker}
-use Rattle.orc_cli_show.proofs.ShowLemmas.{show_memory, output_want, keeps_itself}
+use Rattle.orc_cli_show.proofs.ShowLemmas.{show_memory, output_want}
 use Rattle.orc_cli_show.proofs.show.show_tail.Goals as goal
+use Rattle.orc_io.proofs.Told.{keeps_itself}
 
 pub returns-in_err-lines-clause-refused : goal.returns-in_err-lines-clause-refused
 returns-in_err-lines-clause-refused g c =

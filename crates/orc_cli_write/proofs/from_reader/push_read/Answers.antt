@@ -2,7 +2,7 @@ use Rattle.std.proofs.Common.{◌++◌, [], refl, ◌∙◌, append_assoc, appen
 use Rattle.std.proofs.lemmas.Result.{err_from_is_err_and}
 use Rattle.orc_types.specs.Schemas.{IsSchema}
 use Rattle.orc_row_batch.specs.Batch.{kept_rows}
-use Rattle.orc_file.proofs.WriterLemmas.{cut_kept, within_of}
+use Rattle.orc_file_writer.proofs.WriterLemmas.{cut_kept, within_of}
 use Rattle.orc_tail.specs.declared.fault.FileFault.TheVariants as file
 use Rattle.orc_cli_write.specs.Writes.{EndsInLines}
 use Rattle.orc_cli_write.specs.Reads.{refusal_of, BeginWith}

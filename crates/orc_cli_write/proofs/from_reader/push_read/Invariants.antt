@@ -1,6 +1,6 @@
 use Rattle.std.proofs.Common.{◌≡◌, List, false}
 use Rattle.orc_values.specs.Cells.{Cell}
-use Rattle.orc_file.specs.Progress.{progress}
+use Rattle.orc_file_writer.specs.Progress.{progress}
 use Rattle.orc_cli_write.specs.Writes.{PushesAlso}
 use Rattle.orc_cli_write.proofs.ReadLemmas.{HasLed}
 use Rattle.orc_cli_write.proofs.from_reader.push_read.Given as goal

@@ -1,13 +1,13 @@
 use Rattle.std.proofs.Common.{◌≡◌, ◌⊎◌, [], ◌∷◌, ◌++◌, length, sym, ◌∙◌, append-nil, ap, subst, Err, arith, inl, inr, refl, rules}
 use Rattle.std.proofs.lemmas.Result.{err_from_is_err_and}
-use Rattle.orc_file.proofs.WriterLemmas.{cut_kept, cut_row, within_of}
+use Rattle.orc_file_writer.proofs.WriterLemmas.{cut_kept, cut_row, within_of}
 use Rattle.std.proofs.lemmas.Bool.{eqb-true}
 use Rattle.orc_types.specs.Schemas.{IsSchema}
 use Rattle.orc_values.specs.Views.{view}
 use Rattle.orc_row_batch.specs.Batch.{kept_rows}
-use Rattle.orc_file.specs.Counts.{PassesLimit}
-use Rattle.orc_file.specs.Progress.{progress}
-use Rattle.orc_file.specs.Writing.{PassesBytes, Progress}
+use Rattle.orc_file_writer.specs.Counts.{PassesLimit}
+use Rattle.orc_file_writer.specs.Progress.{progress}
+use Rattle.orc_file_writer.specs.Writing.{PassesBytes, Progress}
 use Rattle.orc_tail.specs.declared.fault.FileFault.TheVariants as file
 use Rattle.orc_cli_output.proofs.OutputLemmas.{file_want}
 use Rattle.orc_cli_write.proofs.LimitLemmas.{row_passes}

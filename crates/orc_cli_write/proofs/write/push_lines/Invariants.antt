@@ -1,6 +1,6 @@
 use Rattle.std.proofs.Common.{◌≡◌, ◌≤◌, ◌-◌, List, length, drop, false}
 use Rattle.orc_values.specs.Cells.{Cell}
-use Rattle.orc_file.specs.Progress.{progress}
+use Rattle.orc_file_writer.specs.Progress.{progress}
 use Rattle.orc_cli_write.specs.Writes.{PushesAlso}
 use Rattle.orc_cli_write.proofs.LinesLemmas.{Leads}
 use Rattle.orc_cli_write.proofs.write.push_lines.Given as goal

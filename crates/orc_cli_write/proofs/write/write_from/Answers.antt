@@ -3,7 +3,7 @@ use Rattle.orc_values.specs.Shapes.{Shape}
 use Rattle.orc_io.proofs.Leaving.{kept_then, sink_as}
 use Rattle.orc_row_batch.specs.Batch.{kept_rows}
 use Rattle.orc_tail.specs.declared.fault.FileFault.TheVariants as file
-use Rattle.orc_cli_write.specs.Lines.{AreRowsOf}
+use Rattle.orc_cli_write.specs.Lines.{AreRowsOfLines}
 use Rattle.orc_cli_write.specs.Writes.{EndsInLines, LimitStands}
 use Rattle.orc_cli_output.specs.declared.fault.CliFault.TheVariants.{File}
 use Rattle.orc_cli_output.proofs.OutputLemmas.{file_want}
@@ -44,7 +44,7 @@ returns-in-Err-finish-clause-refused g c =
     let pushed = p.2 (g.W.Sink.told c.args.out) [] begun in
     let e = c.in-Err-finish.ensures in
     let cut = e.cut (g.W.Sink.told c.args.out) p.0 pushed ready in
-    let rows = subst (λ (x : Shape). AreRowsOf x c.args.input.now p.0) made.0 p.1 in
+    let rows = subst (λ (x : Shape). AreRowsOfLines x c.args.input.now p.0) made.0 p.1 in
     let limit : LimitStands c.args.options s (File c.in-Err-finish.fault) p.0 = λ q.
     let why : c.in-Err-finish.fault ≡ file.Limit = cc in
     let some : 0 < length (kept_rows n.schema n.batch) =

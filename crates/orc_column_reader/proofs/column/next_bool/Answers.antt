@@ -5,7 +5,7 @@ use Rattle.orc_column_reader.proofs.ReaderLemmas.{one_stands, one_bool}
 use Rattle.std.proofs.Common.{refl}
 use Rattle.orc_column_reader.proofs.OwnKinds.{bool_kind}
 use Rattle.orc_column_reader.proofs.NeedLemmas.{runs_more, always_now}
-use Rattle.orc_column_reader.specs.declared.fault.StreamKind.TheVariants as stream
+use Rattle.orc_directory.specs.declared.fault.StreamKind.TheVariants as stream
 use Rattle.orc_column_reader.specs.RunsMet.{BitsMeet}
 use Rattle.orc_column_reader.proofs.column.next_bool.Goals as goal
 

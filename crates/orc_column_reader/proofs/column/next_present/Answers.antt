@@ -1,8 +1,8 @@
 use Rattle.std.proofs.Common.{◌≢◌, ℕ, suc}
 use Rattle.std.proofs.lemmas.Result.{IfErr-weaker}
 use Rattle.orc_column_reader.specs.Faults.{RunsFail}
-use Rattle.orc_column_reader.specs.declared.fault.StripeFault.TheVariants as fault
-use Rattle.orc_column_reader.specs.declared.fault.StreamKind.TheVariants as stream
+use Rattle.orc_directory.specs.declared.fault.StripeFault.TheVariants as fault
+use Rattle.orc_directory.specs.declared.fault.StreamKind.TheVariants as stream
 use Rattle.orc_column_reader.specs.RunsMet.{MarksMeet}
 use Rattle.orc_column_reader.proofs.NeedLemmas.{runs_now}
 use Rattle.orc_column_reader.proofs.column.next_present.Goals as goal

@@ -8,7 +8,7 @@ use Rattle.orc_column_reader.specs.Spellings.{Sized}
 use Rattle.orc_column_reader.specs.Stripe.{Is}
 use Rattle.orc_column_reader.specs.Columns.{entry_bytes}
 use Rattle.orc_column_reader.specs.declared.octets.Octets.{Octets}
-use Rattle.orc_column_reader.specs.declared.fault.StreamKind.TheVariants.{DictionaryData}
+use Rattle.orc_directory.specs.declared.fault.StreamKind.TheVariants.{DictionaryData}
 use Rattle.orc_column_reader.proofs.StartFaults.{integers_from, groups_start, groups_all}
 use Rattle.orc_column_reader.specs.Faults.{StringsFail}
 use Rattle.orc_column_reader.proofs.Entries.{begun, entries_more, entries_found, entries_over, entries_lack}

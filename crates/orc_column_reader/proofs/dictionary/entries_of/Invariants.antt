@@ -6,8 +6,8 @@ use Rattle.orc_column_reader.specs.Octets.{OctetsLeft}
 use Rattle.orc_column_reader.specs.Spellings.{Sized}
 use Rattle.orc_column_reader.specs.Stripe.{Is}
 use Rattle.orc_column_reader.specs.Columns.{entry_bytes}
-use Rattle.orc_column_reader.specs.declared.fault.StreamKind.TheVariants.{DictionaryData}
-use Rattle.orc_column_reader.specs.declared.fault.StripeFault.{StripeFault}
+use Rattle.orc_directory.specs.declared.fault.StreamKind.TheVariants.{DictionaryData}
+use Rattle.orc_directory.specs.declared.fault.StripeFault.{StripeFault}
 use Rattle.orc_column_reader.specs.Faults.{StringsFail}
 use Rattle.orc_column_reader.specs.ReaderFaults.{StringsMeet}
 use Rattle.orc_column_reader.proofs.dictionary.entries_of.Given as goal

@@ -7,8 +7,8 @@ use Rattle.orc_column_reader.proofs.Fronts.{standing_lacks}
 use Rattle.orc_column_reader.proofs.ReaderLemmas.{one_stands, nothing_stands, one_word}
 use Rattle.std.proofs.lemmas.List.{length-map}
 use Rattle.std.proofs.lemmas.Result.{err_from_is_err_and, IfOk-weaker, IfErr-weaker, on_err_weaker}
-use Rattle.orc_column_reader.specs.declared.fault.StreamKind.TheVariants as stream
-use Rattle.orc_column_reader.specs.declared.fault.StripeFault.TheVariants as fault
+use Rattle.orc_directory.specs.declared.fault.StreamKind.TheVariants as stream
+use Rattle.orc_directory.specs.declared.fault.StripeFault.TheVariants as fault
 use Rattle.orc_column_reader.specs.ValueFaults.{is_index, names_text}
 use Rattle.orc_column_reader.proofs.MetLemmas.{words_before, words_now}
 use Rattle.orc_column_reader.proofs.dictionary.next_entry.Goals as goal

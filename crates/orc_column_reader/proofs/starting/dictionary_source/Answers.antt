@@ -1,7 +1,7 @@
 use Rattle.std.proofs.Common.{true, ap, ◌∙◌, subst}
 use Rattle.std.proofs.lemmas.Result.{err_from_is_err_and}
 use Rattle.orc_rle.specs.declared.sign.Sign.TheVariants.{Unsigned}
-use Rattle.orc_column_reader.specs.declared.fault.StreamKind.TheVariants.{DictionaryData}
+use Rattle.orc_directory.specs.declared.fault.StreamKind.TheVariants.{DictionaryData}
 use Rattle.orc_column_reader.specs.Faults.{StringsFail, lengths_of}
 use Rattle.orc_column_reader.specs.RunFaults.{Integers}
 use Rattle.orc_column_reader.specs.Stripe.{version}

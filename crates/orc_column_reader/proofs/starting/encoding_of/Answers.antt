@@ -1,6 +1,6 @@
 use Rattle.std.proofs.Common.{get_or, sym, ap, ◌∙◌}
 use Rattle.orc_column_reader.specs.Stripe.{plain}
-use Rattle.orc_column_reader.proofs.Started.{encoding_there}
+use Rattle.orc_column_reader.proofs.StartFaults.{encoding_there}
 use Rattle.orc_column_reader.proofs.starting.encoding_of.Goals as goal
 
 pub returns : goal.returns

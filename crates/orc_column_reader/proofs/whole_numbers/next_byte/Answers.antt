@@ -7,7 +7,7 @@ use Rattle.orc_column_reader.proofs.Fronts.{standing_lacks}
 use Rattle.orc_column_reader.proofs.OwnKinds.{byte_kind}
 use Rattle.orc_column_reader.proofs.ReaderLemmas.{one_stands, one_byte}
 use Rattle.orc_column_reader.proofs.NeedLemmas.{runs_more, always_now}
-use Rattle.orc_column_reader.specs.declared.fault.StreamKind.TheVariants as stream
+use Rattle.orc_directory.specs.declared.fault.StreamKind.TheVariants as stream
 use Rattle.orc_column_reader.specs.RunsMet.{BytesMeet}
 use Rattle.orc_column_reader.proofs.whole_numbers.next_byte.Goals as goal
 

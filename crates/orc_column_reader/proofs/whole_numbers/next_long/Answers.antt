@@ -4,7 +4,7 @@ use Rattle.std.proofs.lemmas.Result.{err_from_is_err_and}
 use Rattle.orc_values.specs.declared.kind.Scalar.TheVariants as kind
 use Rattle.orc_column_reader.specs.Numbers.{NumbersLeft}
 use Rattle.orc_column_reader.specs.Columns.{IsInt}
-use Rattle.orc_column_reader.specs.declared.fault.StreamKind.TheVariants as stream
+use Rattle.orc_directory.specs.declared.fault.StreamKind.TheVariants as stream
 use Rattle.orc_column_reader.proofs.Fronts.{standing_lacks}
 use Rattle.orc_column_reader.proofs.NeedLemmas.{runs_more}
 use Rattle.orc_column_reader.specs.RunsMet.{NumbersMeet}

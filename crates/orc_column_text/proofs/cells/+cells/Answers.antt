@@ -7,25 +7,27 @@ use Rattle.orc_values.proofs.Views.{shape-Scalar, shape-List, shape-Map, shape-S
 use Rattle.orc_column_reader.specs.Columns.{CellsLeft, PairsLeft}
 use Rattle.orc_column_reader.proofs.Handed.{if_err, on_ok}
 use Rattle.orc_column_text.proofs.Handed.{on_ok_both, on_ok_three}
-use Rattle.orc_column_reader.proofs.Arms.{some_width, pair_lacks, fields_put, fields_behind, cell_null, cell_lacks, own_list_lacks, own_map_lacks, own_struct_lacks, list_taken, list_lacking, map_taken, map_lacking, cells_lacking, first_counted}
+use Rattle.orc_row_reader.proofs.Arms.{pair_lacks, fields_put, fields_behind, cell_null, cell_lacks, own_list_lacks, own_map_lacks, own_struct_lacks, list_taken, list_lacking, map_taken, map_lacking, first_counted}
+use Rattle.orc_column_reader.proofs.Fronts.{cells_lacking}
+use Rattle.orc_values.proofs.Widths.{some_width}
 use Rattle.orc_column_reader.specs.declared.column.ColumnReader.{ColumnReader}
 use Rattle.orc_column_reader.specs.ReaderFaults.{CellsMeet, PairsMeet}
-use Rattle.orc_column_reader.proofs.FaultLemmas.{scalar_before, cell_before, null_before, cell_now, cell_mark, list_before, lists_own, own_lists, struct_before, own_struct_meets, lists_size, lists_elements, map_before, maps_own, own_maps, maps_size, maps_pairs, pair_before}
-use Rattle.orc_json.specs.Layouts.{text_by, null_text, part, member_parts, pair_text, pair_texts}
+use Rattle.orc_row_reader.proofs.FaultLemmas.{scalar_before, cell_before, null_before, cell_now, cell_mark, list_before, lists_own, own_lists, struct_before, own_struct_meets, lists_size, lists_elements, map_before, maps_own, own_maps, maps_size, maps_pairs, pair_before, own_scalar}
+use Rattle.orc_json_printer.specs.Layouts.{text_by, null_text, part, member_parts, pair_text, pair_texts}
 use Rattle.orc_column_text.proofs.AnyOrder.{columns_told, reading_first, reading_last, reading_last_meet}
 use Rattle.orc_column_text.proofs.Members.{many-fields, field_at-is, first_behind, own_within, own_less, region_length, place_told, others_told, members_next, members_lack, members_meet, member_printed, member_lacks, member_meets}
 use Rattle.std.proofs.lemmas.List.{length-map, drop_all}
 use Rattle.std.proofs.lemmas.Result.{err_from_is_err_and}
 use borrow.Rule.Slice.PartMut.{put_mid}
-use Rattle.orc_json.specs.declared.layout.FieldColumns.{FieldColumns}
+use Rattle.orc_json_printer.specs.declared.layout.FieldColumns.{FieldColumns}
 use Rattle.orc_column_text.specs.Regions.{field_at, columns_before, AreMembersOf}
-use Rattle.orc_column_text.specs.Texts.{texts}
+use Rattle.orc_column_text.specs.Texts.{comma_texts}
 use Rattle.orc_column_text.proofs.Texts.{null_text_by}
-use Rattle.orc_json.proofs.Outputs.{puts_is}
+use Rattle.orc_json_printer.proofs.Outputs.{puts_is}
 use Rattle.orc_column_text.specs.LaidOut.{IsLaidOut, AreFieldsLaidOut}
-use Rattle.orc_json.specs.declared.layout.Member.{Member}
+use Rattle.orc_json_printer.specs.declared.layout.Member.{Member}
 use Rattle.orc_column_text.proofs.Laying.{leaf_layout, struct_layout, member_laid_out}
-use Rattle.orc_column_text.proofs.Taken.{scalar_taken, scalar_lacking, scalar_meets, bracketed, passed_next, passed_all, value_taken, list_taken_text, map_taken_text, pair_taken, struct_taken_text}
+use Rattle.orc_column_text.proofs.Taken.{scalar_taken, scalar_lacking, bracketed, passed_next, passed_all, value_taken, list_taken_text, map_taken_text, pair_taken, struct_taken_text}
 use Rattle.orc_column_text.proofs.cells.+cells.Goals as goal
 
 -- ---- so many cells
@@ -134,7 +136,7 @@ push_list-returns-clause-found g t c =
       one = f.all;
       taken = list_taken (shape c.args.element.now) c.args.readers.now c.push_cells.new.readers (record { present = (get_or c.args.readers.now 0 c.index-readers-0.result).present; source = c.next_size.new.source }) c.index-readers-0.result c.in_ok-size.size f.all (omega (arith, c.requires.counted))
           c.in_ok-size.ensures.found c.in_ok-size.ensures.room.0 c.in_ok-size.ensures.room.1 f.counted f.taken;
-      put = bracketed g.T.TextOutput.holds c.args.out.now c.put_byte.new.self c.push_cells.new.out c.put_byte-2.new.self (texts (text_by c.args.layout.now) false f.all) c.in_ok-put_byte.ensures.found f.put c.in_ok-put_byte-2.ensures.found;
+      put = bracketed g.T.TextOutput.holds c.args.out.now c.put_byte.new.self c.push_cells.new.out c.put_byte-2.new.self (comma_texts (text_by c.args.layout.now) false f.all) c.in_ok-put_byte.ensures.found f.put c.in_ok-put_byte-2.ensures.found;
     }
 
 pub push_list-returns-in_err-push_cells-clause-none : goal.push_list-returns-in_err-push_cells-clause-none
@@ -182,7 +184,7 @@ pub push_value-returns-in-Scalar-clause-fault : goal.push_value-returns-in-Scala
 push_value-returns-in-Scalar-clause-fault g t c =
     let w = some_width (shape c.args.tree.now) in
     if_err c.push_scalar.result c.push_scalar.ensures.fault (λ cause given memory n.
-    scalar_meets (shape c.args.tree.now) c.in-Scalar.kind c.in-Scalar.field-1.items c.args.readers.now c.index-readers-0.result false (suc n) cause (ap shape c.in-Scalar.is ∙ shape-Scalar c.in-Scalar.kind c.in-Scalar.field-1) (omega (arith, c.requires.counted, w)) (given memory n))
+    own_scalar (shape c.args.tree.now) c.in-Scalar.kind c.in-Scalar.field-1.items c.args.readers.now c.index-readers-0.result false (suc n) cause (ap shape c.in-Scalar.is ∙ shape-Scalar c.in-Scalar.kind c.in-Scalar.field-1) (omega (arith, c.requires.counted, w)) (given memory n))
 
 pub push_value-returns-in-Scalar-clause-before : goal.push_value-returns-in-Scalar-clause-before
 push_value-returns-in-Scalar-clause-before g t c =
@@ -450,7 +452,7 @@ push_map-returns-clause-found g t c =
       one = f.all;
       taken = map_taken (shape c.args.key.now) (shape c.args.value.now) c.args.readers.now c.push_pairs.new.readers (record { present = (get_or c.args.readers.now 0 c.index-readers-0.result).present; source = c.next_size.new.source }) c.index-readers-0.result c.in_ok-size.size f.all (omega (arith, c.requires.counted))
           c.in_ok-size.ensures.found c.in_ok-size.ensures.room.0 c.in_ok-size.ensures.room.1 f.counted f.taken;
-      put = bracketed g.T.TextOutput.holds c.args.out.now c.put_byte.new.self c.push_pairs.new.out c.put_byte-2.new.self (texts (pair_text (pair_texts c.args.layouts.now)) false f.all) c.in_ok-put_byte.ensures.found f.put c.in_ok-put_byte-2.ensures.found;
+      put = bracketed g.T.TextOutput.holds c.args.out.now c.put_byte.new.self c.push_pairs.new.out c.put_byte-2.new.self (comma_texts (pair_text (pair_texts c.args.layouts.now)) false f.all) c.in_ok-put_byte.ensures.found f.put c.in_ok-put_byte-2.ensures.found;
     }
 
 pub push_map-returns-in_err-push_pairs-clause-none : goal.push_map-returns-in_err-push_pairs-clause-none

@@ -4,7 +4,7 @@ use Rattle.orc_values.specs.Views.{shape}
 use Rattle.orc_stats.specs.Kinds.{kind_of}
 use Rattle.orc_stats.specs.Statistics.{stat}
 use Rattle.orc_stats.specs.Tallies.{cells_kept, stat_of_kept}
-use Rattle.orc_row_index.proofs.Groups.{bound_up, bound_within}
+use Rattle.orc_row_groups.proofs.Groups.{bound_up, bound_within}
 use Rattle.orc_column_walk.proofs.GroupLemmas.{no_groups_read, group_read, lacks_group, fault_group, groups_all, fewer_values}
 use Rattle.orc_column_walk.proofs.group_values.count_groups.Goals as goal
 

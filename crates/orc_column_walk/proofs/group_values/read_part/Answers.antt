@@ -2,7 +2,7 @@ use Rattle.std.proofs.Common.{refl, length, ◌++◌, sym, ap, ◌∙◌, subst,
 use Rattle.orc_values.specs.Cells.{null}
 use Rattle.orc_values.specs.Views.{shape}
 use Rattle.orc_stats.specs.Tallies.{together, cell_kept}
-use Rattle.orc_stats.specs.TallyLaws.{cells_kept_count}
+use Rattle.orc_stats.specs.laws.TallyLaws.{cells_kept_count}
 use Rattle.orc_column_walk.specs.Passed.{IsPassed}
 use Rattle.orc_column_walk.proofs.KeptLemmas.{part_with_nulls, part_of_values}
 use Rattle.orc_column_walk.proofs.group_values.read_part.Goals as goal

@@ -3,7 +3,7 @@ use Rattle.orc_values.specs.Own.{own_cell}
 use Rattle.orc_values.specs.Views.{shape}
 use Rattle.orc_stats.specs.Kinds.{is_of}
 use Rattle.orc_stats.specs.Statistics.{bit}
-use Rattle.orc_stats.specs.TallyLaws.{cells_kept_count}
+use Rattle.orc_stats.specs.laws.TallyLaws.{cells_kept_count}
 use Rattle.orc_column_walk.specs.OwnLeft.{OwnValuesLeft}
 use Rattle.orc_column_walk.proofs.ReadLemmas.{read_fault}
 use Rattle.orc_column_walk.proofs.PassedLemmas.{ValuesMet, no_values_counted, value_counted}

@@ -1,13 +1,13 @@
 use Rattle.std.proofs.Common.{◌+◌, refl, arith}
 use Rattle.orc_column_reader.specs.Columns.{MarksLeft}
-use Rattle.orc_row_index.specs.Bounds.{bound_at}
-use Rattle.orc_row_index.proofs.Groups.{bound_up, bound_within}
-use Rattle.orc_column_walk.proofs.GroupLemmas.{bound_past}
+use Rattle.orc_row_groups.specs.Bounds.{bound_at}
+use Rattle.orc_row_groups.proofs.Groups.{bound_up, bound_within}
 use Rattle.orc_column_walk.proofs.MarkLemmas.{PresentMet}
 use Rattle.orc_column_walk.proofs.ReadLemmas.{read_on}
 use Rattle.orc_column_walk.proofs.StartedLemmas.{trues_few}
 use Rattle.orc_column_walk.proofs.GroupMarkLemmas.{no_group_marks, group_marks, lacks_group_marks, fault_group_marks, all_group_marks}
 use Rattle.orc_column_walk.proofs.marks.read_groups_marks.Goals as goal
+use Rattle.orc_row_groups.proofs.BoundLemmas.{bound_past}
 
 pub loop-group-init : goal.loop-group-init
 loop-group-init c = rw c.new-before.ensures.items (no_group_marks c.args.column c.args.present.now c.args.count c.args.bounds.now c.requires.first)

@@ -2,7 +2,7 @@ use Rattle.std.proofs.Common.{◌+◌, refl, arith}
 use Rattle.std.proofs.lemmas.Result.{err_from_is_err_and}
 use Rattle.orc_column_reader.specs.Columns.{MarksLeft}
 use Rattle.orc_column_reader.specs.RunsMet.{MarksMeet}
-use Rattle.orc_column_reader.specs.declared.fault.StreamKind.TheVariants.{Present}
+use Rattle.orc_directory.specs.declared.fault.StreamKind.TheVariants.{Present}
 use Rattle.orc_column_reader.proofs.NeedLemmas.{runs_now}
 use Rattle.orc_column_walk.proofs.ReadLemmas.{read_lacks, read_fault, read_on}
 use Rattle.orc_column_walk.proofs.MarkLemmas.{PresentMet, no_marks_read, mark_read}

@@ -1,6 +1,6 @@
 use Rattle.std.proofs.Common.{◌≡◌, List, ◌+◌, ℕ, ◌∙◌, length, refl, sym, ap, subst, arith}
 use Rattle.orc_values.specs.Shapes.{struct_of}
-use Rattle.orc_row_index.specs.Bounds.{bound_at}
+use Rattle.orc_row_groups.specs.Bounds.{bound_at}
 use Rattle.orc_column_walk.specs.Passed.{AreGroupsFound}
 use Rattle.orc_column_walk.proofs.StructLemmas.{struct_group, structs_found}
 use Rattle.orc_column_walk.proofs.struct_groups.find_structs.Goals as goal

@@ -2,18 +2,20 @@ use Rattle.std.proofs.Common.{◌≡◌, ◌∙◌, ℕ, List, Err, inl, inr, sy
 use Rattle.std.specs.Prelude.{◌⊎◌, MatchResult}
 use Rattle.orc_values.specs.Cells.{Cell}
 use Rattle.orc_values.specs.Views.{views}
-use Rattle.orc_file.specs.FileRows.{FileIs}
+use Rattle.orc_file_reader.specs.FileRows.{FileIs}
 use Rattle.orc_tail.specs.Tails.{IsTail}
 use Rattle.orc_tail.specs.declared.tail.Tail.{Tail}
 use Rattle.orc_tail.specs.declared.fault.FileFault.TheVariants.{OutOfMemory, SourceFailed}
-use Rattle.orc_file_tests.proofs.ToldBytes.{at_told, ok_more, only_one}
+use Rattle.orc_file_tests.proofs.ToldBytes.{only_one}
 use Rattle.orc_file_tests.proofs.read_back.rows_of_file.Goals as goal
+use Rattle.std.proofs.lemmas.Result.{IfOk-weaker}
+use Rattle.orc_io.proofs.Told.{at_told}
 
 pub returns-in-Ok-clause-read : goal.returns-in-Ok-clause-read
 returns-in-Ok-clause-read c =
     let opened = at_told _ c.args.bytes.now (λ (b : List ℕ). IsTail b c.in-Ok.file.tail) c.new.ensures.told c.in-Ok.ensures.found in
-    ok_more c.rows.result _ _ c.rows.ensures.found (λ rows read.
-    (c.in-Ok.file.tail, at_told _ c.args.bytes.now (λ (b : List ℕ). IsTail b c.in-Ok.file.tail → FileIs b c.in-Ok.file.tail (views rows.items)) (c.in-Ok.ensures.source.told ∙ c.new.ensures.told) read opened))
+    IfOk-weaker c.rows.result _ _ (λ rows read.
+    (c.in-Ok.file.tail, at_told _ c.args.bytes.now (λ (b : List ℕ). IsTail b c.in-Ok.file.tail → FileIs b c.in-Ok.file.tail (views rows.items)) (c.in-Ok.ensures.source.told ∙ c.new.ensures.told) read opened)) c.rows.ensures.found
 
 pub returns-in-Ok-clause-only : goal.returns-in-Ok-clause-only
 returns-in-Ok-clause-only c = λ tail rows h.

@@ -2,7 +2,7 @@ use Rattle.orc_rle.specs.Seeking.{bytes_needed}
 use Rattle.orc_rle.specs.ByteRun.{IsByteRun}
 use Rattle.orc_group_reader.proofs.RunStarts.{runs_to}
 use Rattle.std.proofs.Common.{ℕ, drop, refl, sym, subst}
-use Rattle.orc_positions.specs.BitPosition.{BitsLeft}
+use Rattle.orc_positions.specs.BitPosition.{BitsPending}
 use Rattle.orc_column_reader.specs.Bits as reader
 use Rattle.orc_column_reader.specs.declared.bits.Bits.{Bits}
 use Rattle.orc_group_reader.specs.ReadersAt.{BitsAt}
@@ -29,7 +29,7 @@ returns-in-None-clause-enters c = λ other all n b stream agree.
     let is = made_of c.behind-in-None.result c.behind-after-in-None.result _ _ _ c.behind-in-None.ensures c.behind-after-in-None.ensures in
     subst (λ (r : Bits). reader.BitsLeft r (drop n all)) (sym is)
     (none_left _ left rest (drop n all) refl refl refl
-    (subst (λ (k : ℕ). BitsLeft left rest k (drop n all)) none (bits_there c.args.bytes.now other all left c.args.pos.offset c.args.pos.skip c.args.pos.bits n c.in-Ok.at b stream agree c.in-Ok.ensures.found)))
+    (subst (λ (k : ℕ). BitsPending left rest k (drop n all)) none (bits_there c.args.bytes.now other all left c.args.pos.offset c.args.pos.skip c.args.pos.bits n c.in-Ok.at b stream agree c.in-Ok.ensures.found)))
 
 pub last_byte_start-start-requires : goal.last_byte_start-start-requires
 last_byte_start-start-requires c =

@@ -3,7 +3,7 @@ use Rattle.orc_rle.specs.declared.sign.Sign.TheVariants.{Unsigned}
 use Rattle.orc_column_reader.specs.Faults.{EntriesFail, StringsFail, lengths_of}
 use Rattle.orc_column_reader.specs.RunFaults.{Integers}
 use Rattle.orc_column_reader.specs.Stripe.{version}
-use Rattle.orc_column_reader.specs.declared.fault.StreamKind.TheVariants.{DictionaryData}
+use Rattle.orc_directory.specs.declared.fault.StreamKind.TheVariants.{DictionaryData}
 use Rattle.orc_column_reader.proofs.StartFaults.{integers_from}
 use Rattle.orc_group_reader.proofs.entries.dictionary_of.Goals as goal
 

@@ -1,7 +1,7 @@
 use Rattle.std.proofs.Common.{◌≡◌, ◌∷◌}
 use Rattle.std.proofs.lemmas.Result.{IfOk-weaker}
 use Rattle.json.specs.Reads.{token_of}
-use Rattle.orc_types.specs.JsonLeaves.{ScalarSpells}
+use Rattle.orc_json_rows.specs.JsonLeaves.{ScalarSpells}
 use Rattle.orc_values.specs.Views.{view}
 use Rattle.orc_json_reader.proofs.RowLemmas.{leaf_front}
 use Rattle.orc_json_reader.proofs.leaf_reading.read_scalar.Goals as goal

@@ -6,16 +6,16 @@ use Rattle.json.specs.Token.{Token}
 use Rattle.json.specs.Json.{after_end_array, read_key}
 use Rattle.json.proofs.Grammar.{read_key-shorter}
 use Rattle.orc_values.specs.Cells.{Cell}
-use Rattle.orc_types.specs.JsonRows.{OrNull, ArraySpells, MapSpells, Spells, PairSpells, FieldsSpell, ObjectSpells}
+use Rattle.orc_json_rows.specs.JsonRows.{OrNull, ArraySpells, MapSpells, JsonSpells, PairSpells, FieldsSpell, ObjectSpells}
 use Rattle.orc_values.specs.Shapes.{names_of}
 use Rattle.orc_values.specs.Views.{view, views, paired, shape, fields}
-use Rattle.orc_types.specs.JsonLeaves.{ScalarSpells}
+use Rattle.orc_json_rows.specs.JsonLeaves.{ScalarSpells}
 use Rattle.orc_values.specs.declared.tree.Tree.{Tree}
 use Rattle.orc_values.specs.declared.tree.Field.{Field}
 use Rattle.orc_values.specs.declared.value.Value.{Value, List as ListOf, Map as MapOf, Struct as StructOf, the_lemmas}
 use Rattle.orc_values.specs.declared.value.Value as value
 use Rattle.orc_values.specs.declared.value.MapPair.{MapPair}
-use Rattle.orc_types.proofs.Names.{distinct_at}
+use Rattle.orc_json_rows.proofs.Names.{distinct_at}
 use Rattle.orc_values.proofs.Views.{paired-is}
 use Rattle.orc_json_reader.specs.Fronts.{ValueFront}
 use Rattle.orc_json_reader.specs.Frontier.{read_up_to}
@@ -33,7 +33,7 @@ read_value-returns-in-Scalar-clause-found t c =
     let tree = c.args.tree.now in
     let row = c.read_scalar.new.cell in
     IfOk-weaker c.read_scalar.result _ _
-    (λ done h. same_front (λ d. ScalarSpells c.in-Scalar.kind d (view row)) (λ d. Spells (shape tree) d (view row)) c.args.depth c.args.reader.now c.read_scalar.new.reader
+    (λ done h. same_front (λ d. ScalarSpells c.in-Scalar.kind d (view row)) (λ d. JsonSpells (shape tree) d (view row)) c.args.depth c.args.reader.now c.read_scalar.new.reader
     (λ d g. of_scalar tree c.in-Scalar.kind c.in-Scalar.field-1 (view row) d c.in-Scalar.is g) (h c.args.depth))
     c.read_scalar.ensures.found
 
@@ -42,8 +42,8 @@ read_value-returns-in-List-clause-found t c =
     let tree = c.args.tree.now in
     let row = c.read_list.new.cell in
     IfOk-weaker c.read_list.result _ _
-    (λ done h. same_front (λ d. OrNull d (view row) (ArraySpells (Spells (shape c.deref.result.now)) d (view row))) (λ d. Spells (shape tree) d (view row)) c.args.depth c.args.reader.now c.read_list.new.reader
-    (λ d g. of_list tree c.in-List.element c.in-List.field-1 (view row) d c.in-List.is (subst (λ (x : Tree). OrNull d (view row) (ArraySpells (Spells (shape x)) d (view row))) c.deref.ensures g)) h)
+    (λ done h. same_front (λ d. OrNull d (view row) (ArraySpells (JsonSpells (shape c.deref.result.now)) d (view row))) (λ d. JsonSpells (shape tree) d (view row)) c.args.depth c.args.reader.now c.read_list.new.reader
+    (λ d g. of_list tree c.in-List.element c.in-List.field-1 (view row) d c.in-List.is (subst (λ (x : Tree). OrNull d (view row) (ArraySpells (JsonSpells (shape x)) d (view row))) c.deref.ensures g)) h)
     c.read_list.ensures.found
 
 pub read_value-returns-in-Map-clause-found : goal.read_value-returns-in-Map-clause-found
@@ -53,10 +53,10 @@ read_value-returns-in-Map-clause-found t c =
     let k = c.deref-in-Map.result.now in
     let v = c.deref-in-Map-2.result.now in
     IfOk-weaker c.read_map.result _ _
-    (λ done h. same_front (λ d. OrNull d (view row) (MapSpells (Spells (shape k)) (Spells (shape v)) d (view row))) (λ d. Spells (shape tree) d (view row)) c.args.depth c.args.reader.now c.read_map.new.reader
+    (λ done h. same_front (λ d. OrNull d (view row) (MapSpells (JsonSpells (shape k)) (JsonSpells (shape v)) d (view row))) (λ d. JsonSpells (shape tree) d (view row)) c.args.depth c.args.reader.now c.read_map.new.reader
     (λ d g. of_map tree c.in-Map.key c.in-Map.value c.in-Map.field-2 (view row) d c.in-Map.is
-    (subst (λ (x : Tree). OrNull d (view row) (MapSpells (Spells (shape c.in-Map.key.value)) (Spells (shape x)) d (view row))) c.deref-in-Map-2.ensures
-    (subst (λ (x : Tree). OrNull d (view row) (MapSpells (Spells (shape x)) (Spells (shape v)) d (view row))) c.deref-in-Map.ensures g))) h)
+    (subst (λ (x : Tree). OrNull d (view row) (MapSpells (JsonSpells (shape c.in-Map.key.value)) (JsonSpells (shape x)) d (view row))) c.deref-in-Map-2.ensures
+    (subst (λ (x : Tree). OrNull d (view row) (MapSpells (JsonSpells (shape x)) (JsonSpells (shape v)) d (view row))) c.deref-in-Map.ensures g))) h)
     c.read_map.ensures.found
 
 -- ---- read_list, read_map, read_struct
@@ -69,8 +69,8 @@ read_list-returns-in-Some-Null-clause-found t c =
 pub read_list-returns-in-Some-List-clause-found : goal.read_list-returns-in-Some-List-clause-found
 read_list-returns-in-Some-List-clause-found t c =
     let first : c.args.reader.now ≡ Token.begin_array ∷ c.next.new.self = grind arith in
-    let found = IfOk-weaker c.read_elements.result _ (λ done. ValueFront (λ d. OrNull d (view (Some (ListOf c.read_elements.new.rows))) (ArraySpells (Spells (shape c.args.element.now)) d (view (Some (ListOf c.read_elements.new.rows))))) c.args.depth c.args.reader.now c.read_elements.new.reader)
-    (λ done h. list_front (Spells (shape c.args.element.now)) c.read_elements.new.rows c.args.depth c.args.reader.now c.next.new.self c.read_elements.new.reader first (omega arith) h)
+    let found = IfOk-weaker c.read_elements.result _ (λ done. ValueFront (λ d. OrNull d (view (Some (ListOf c.read_elements.new.rows))) (ArraySpells (JsonSpells (shape c.args.element.now)) d (view (Some (ListOf c.read_elements.new.rows))))) c.args.depth c.args.reader.now c.read_elements.new.reader)
+    (λ done h. list_front (JsonSpells (shape c.args.element.now)) c.read_elements.new.rows c.args.depth c.args.reader.now c.next.new.self c.read_elements.new.reader first (omega arith) h)
     c.read_elements.ensures.found in
     rw c.in-Some-List.field-0-is (search (rules, the_lemmas, found))
 
@@ -82,8 +82,8 @@ read_map-returns-in-Some-Null-clause-found t c =
 pub read_map-returns-in-Some-Map-clause-found : goal.read_map-returns-in-Some-Map-clause-found
 read_map-returns-in-Some-Map-clause-found t c =
     let first : c.args.reader.now ≡ Token.begin_array ∷ c.next.new.self = grind arith in
-    let found = IfOk-weaker c.read_pairs.result _ (λ done. ValueFront (λ d. OrNull d (view (Some (MapOf c.read_pairs.new.pairs))) (MapSpells (Spells (shape c.args.key.now)) (Spells (shape c.args.value.now)) d (view (Some (MapOf c.read_pairs.new.pairs))))) c.args.depth c.args.reader.now c.read_pairs.new.reader)
-    (λ done h. map_front (Spells (shape c.args.key.now)) (Spells (shape c.args.value.now)) c.read_pairs.new.pairs c.args.depth c.args.reader.now c.next.new.self c.read_pairs.new.reader first (omega arith) h)
+    let found = IfOk-weaker c.read_pairs.result _ (λ done. ValueFront (λ d. OrNull d (view (Some (MapOf c.read_pairs.new.pairs))) (MapSpells (JsonSpells (shape c.args.key.now)) (JsonSpells (shape c.args.value.now)) d (view (Some (MapOf c.read_pairs.new.pairs))))) c.args.depth c.args.reader.now c.read_pairs.new.reader)
+    (λ done h. map_front (JsonSpells (shape c.args.key.now)) (JsonSpells (shape c.args.value.now)) c.read_pairs.new.pairs c.args.depth c.args.reader.now c.next.new.self c.read_pairs.new.reader first (omega arith) h)
     c.read_pairs.ensures.found in
     rw c.in-Some-Map.field-0-is (search (rules, the_lemmas, found))
 
@@ -106,7 +106,7 @@ read_struct-returns-in-Some-Struct-clause-found t c =
 
 pub read_elements-elements-preserved : goal.read_elements-elements-preserved
 read_elements-elements-preserved t c =
-    let Is = Spells (shape c.args.tree.now) in
+    let Is = JsonSpells (shape c.args.tree.now) in
     let i = c.elements.count in
     let going : (after_end_array c.elements.reader ≡ None) × (c.take_end_array.new.self ≡ c.elements.reader) = grind arith in
     let row = c.read_value.new.cell in
@@ -125,14 +125,14 @@ read_elements-elements-preserved t c =
 pub read_elements-returns-clause-found : goal.read_elements-returns-clause-found
 read_elements-returns-clause-found t c =
     rw c.cut_rows.ensures
-    (elements_last (Spells (shape c.args.tree.now)) c.args.depth c.args.reader.now c.elements.reader c.take_end_array.new.self (views (take c.elements.count c.elements.rows.items)) c.elements-test.ensures c.elements.invariant.0)
+    (elements_last (JsonSpells (shape c.args.tree.now)) c.args.depth c.args.reader.now c.elements.reader c.take_end_array.new.self (views (take c.elements.count c.elements.rows.items)) c.elements-test.ensures c.elements.invariant.0)
 
 -- ---- pairs
 
 pub read_pair-returns-clause-found : goal.read_pair-returns-clause-found
 read_pair-returns-clause-found t c =
-    let K = Spells (shape c.args.key.now) in
-    let V = Spells (shape c.args.value.now) in
+    let K = JsonSpells (shape c.args.key.now) in
+    let V = JsonSpells (shape c.args.value.now) in
     let first : c.args.reader.now ≡ Token.begin_array ∷ c.next.new.self = grind arith in
     let k = view c.read_value.new.cell in
     let v = view c.read_value-2.new.cell in
@@ -144,8 +144,8 @@ read_pair-returns-clause-found t c =
 
 pub read_pairs-pairs-preserved : goal.read_pairs-pairs-preserved
 read_pairs-pairs-preserved t c =
-    let K = Spells (shape c.args.key.now) in
-    let V = Spells (shape c.args.value.now) in
+    let K = JsonSpells (shape c.args.key.now) in
+    let V = JsonSpells (shape c.args.value.now) in
     let i = c.pairs.count in
     let going : (after_end_array c.pairs.reader ≡ None) × (c.take_end_array.new.self ≡ c.pairs.reader) = grind arith in
     let p = c.read_pair.new.pair in
@@ -165,7 +165,7 @@ read_pairs-pairs-preserved t c =
 pub read_pairs-returns-clause-found : goal.read_pairs-returns-clause-found
 read_pairs-returns-clause-found t c =
     rw c.cut_pairs.ensures
-    (pairs_last (Spells (shape c.args.key.now)) (Spells (shape c.args.value.now)) c.args.depth c.args.reader.now c.pairs.reader c.take_end_array.new.self (map paired (take c.pairs.count c.pairs.pairs.items)) c.pairs-test.ensures c.pairs.invariant.0)
+    (pairs_last (JsonSpells (shape c.args.key.now)) (JsonSpells (shape c.args.value.now)) c.args.depth c.args.reader.now c.pairs.reader c.take_end_array.new.self (map paired (take c.pairs.count c.pairs.pairs.items)) c.pairs-test.ensures c.pairs.invariant.0)
 
 -- ---- fields
 

@@ -1,5 +1,5 @@
 use Rattle.std.proofs.Common.{◌+◌, ◌*◌, ◌≤◌, map, take, length}
-use Rattle.orc_types.specs.JsonRows.{Spells}
+use Rattle.orc_json_rows.specs.JsonRows.{JsonSpells}
 use Rattle.orc_values.specs.Views.{views, paired, shape}
 use Rattle.orc_json_reader.specs.Frontier.{read_up_to}
 use Rattle.orc_json_reader.proofs.ItemLemmas.{ElementsGo, PairsGo}
@@ -31,13 +31,13 @@ abbrev pub decreases-read_fields : goal.decreases-read_fields
 decreases-read_fields l = 4 * l.depth + 2
 
 abbrev pub invariant-read_elements-elements : goal.invariant-read_elements-elements
-invariant-read_elements-elements l = ElementsGo (Spells (shape l.tree)) l.depth l.initial.reader l.reader (views (take l.count l.rows.items)) × (l.count ≤ length l.rows.items)
+invariant-read_elements-elements l = ElementsGo (JsonSpells (shape l.tree)) l.depth l.initial.reader l.reader (views (take l.count l.rows.items)) × (l.count ≤ length l.rows.items)
 
 abbrev pub decreases-read_elements-elements : goal.decreases-read_elements-elements
 decreases-read_elements-elements l = length l.reader
 
 abbrev pub invariant-read_pairs-pairs : goal.invariant-read_pairs-pairs
-invariant-read_pairs-pairs l = PairsGo (Spells (shape l.key)) (Spells (shape l.value)) l.depth l.initial.reader l.reader (map paired (take l.count l.pairs.items)) × (l.count ≤ length l.pairs.items)
+invariant-read_pairs-pairs l = PairsGo (JsonSpells (shape l.key)) (JsonSpells (shape l.value)) l.depth l.initial.reader l.reader (map paired (take l.count l.pairs.items)) × (l.count ≤ length l.pairs.items)
 
 abbrev pub decreases-read_pairs-pairs : goal.decreases-read_pairs-pairs
 decreases-read_pairs-pairs l = length l.reader

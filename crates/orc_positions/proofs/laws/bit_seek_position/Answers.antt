@@ -2,7 +2,7 @@ use Rattle.std.proofs.Common.{ℕ, ◌+◌, ◌≤◌, sym, subst, arith, inl, i
 use Rattle.std.specs.Prelude.{IfOk}
 use Rattle.orc_rle.specs.declared.fault.RunFault.{RunFault}
 use Rattle.orc_rle.specs.ByteRun.{IsByteRun}
-use Rattle.orc_rle.specs.ByteLaws.{byte_run_some}
+use Rattle.orc_rle.proofs.ByteLaws.{byte_run_some}
 use Rattle.orc_rle.specs.Seeking.{CountsRuns, bytes_needed}
 use Rattle.orc_positions.specs.BitPosition.{BeginsBits}
 use Rattle.orc_positions.proofs.PositionLemmas.{counts_exact}

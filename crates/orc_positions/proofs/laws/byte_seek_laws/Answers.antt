@@ -1,6 +1,6 @@
 use Rattle.std.proofs.Common.{arith}
 use Rattle.orc_rle.specs.ByteRun.{IsByteRun}
-use Rattle.orc_rle.specs.ByteLaws.{one_byte_run, byte_run_some}
+use Rattle.orc_rle.proofs.ByteLaws.{one_byte_run, byte_run_some}
 use Rattle.orc_positions.proofs.PositionLemmas.{goes_on_alone, goes_on, sought, one_number, one_place}
 use Rattle.orc_positions.proofs.RunStartLemmas.{mark_start}
 use Rattle.orc_positions.proofs.laws.byte_seek_laws.Goals as goal

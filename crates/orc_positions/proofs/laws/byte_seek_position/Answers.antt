@@ -2,7 +2,7 @@ use Rattle.std.proofs.Common.{ℕ, ◌+◌, ◌≤◌, subst, arith, inl, inr, R
 use Rattle.std.specs.Prelude.{IfOk}
 use Rattle.orc_rle.specs.declared.fault.RunFault.{RunFault}
 use Rattle.orc_rle.specs.ByteRun.{IsByteRun}
-use Rattle.orc_rle.specs.ByteLaws.{byte_run_some}
+use Rattle.orc_rle.proofs.ByteLaws.{byte_run_some}
 use Rattle.orc_rle.specs.Seeking.{CountsRuns}
 use Rattle.orc_positions.proofs.PositionLemmas.{place_run, place_found, counts_exact}
 use Rattle.orc_positions.proofs.laws.byte_seek_position.Goals as goal

@@ -1,5 +1,5 @@
 use Rattle.orc_rle.specs.ByteRun.{IsByteRun}
-use Rattle.orc_rle.specs.ByteLaws.{one_byte_run, byte_run_some}
+use Rattle.orc_rle.proofs.ByteLaws.{one_byte_run, byte_run_some}
 use Rattle.orc_positions.proofs.PlaceLemmas.{named, begins_named}
 use Rattle.orc_positions.proofs.BitPositionLemmas.{has_whole}
 use Rattle.orc_positions.proofs.places.byte_place_laws.Goals as goal

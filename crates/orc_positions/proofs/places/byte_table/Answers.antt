@@ -1,7 +1,7 @@
 use Rattle.std.proofs.Common.{length, ap, arith, refl, inl, inr}
 use Rattle.orc_rle.specs.declared.fault.RunFault.TheVariants.{TooMany}
 use Rattle.orc_rle.specs.ByteRun.{IsByteRun, NoByteRun}
-use Rattle.orc_rle.specs.ByteLaws.{one_byte_run, no_byte_run, one_byte_fault, byte_run_some}
+use Rattle.orc_rle.proofs.ByteLaws.{one_byte_run, no_byte_run, one_byte_fault, byte_run_some}
 use Rattle.orc_rle.proofs.StreamLemmas.{within_no_run, within_many, one_stop_within}
 use Rattle.orc_positions.specs.RunTable.{Places, ArePlaces}
 use Rattle.orc_positions.proofs.PlaceLemmas.{places_go_up}

@@ -1,6 +1,6 @@
 use Rattle.std.proofs.Common.{◌-◌, ◌<◌, ◌≤◌, ◌∙◌, drop, arith, rules, inl}
 use Rattle.orc_rle.specs.ByteRun.{IsByteRun}
-use Rattle.orc_rle.specs.ByteLaws.{one_byte_run, byte_run_some}
+use Rattle.orc_rle.proofs.ByteLaws.{one_byte_run, byte_run_some}
 use Rattle.orc_positions.proofs.PositionLemmas.{mark_end}
 use Rattle.orc_positions.proofs.RunStartLemmas.{mark_holds, mark_end_begins, mark_within, run_there, run_some, mark_over, mark_unread}
 use Rattle.orc_positions.proofs.run_start.byte_run_start_at.Goals as goal

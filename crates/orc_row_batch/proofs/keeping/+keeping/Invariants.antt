@@ -1,25 +1,25 @@
 use Rattle.std.proofs.Common.{◌+◌, ◌*◌, map, take}
 use Rattle.orc_values.specs.Shapes.{width, widths}
 use Rattle.orc_values.specs.Views.{views, paired, shape, fields}
-use Rattle.orc_row_batch.specs.Batch.{columns_of}
+use Rattle.orc_row_batch.specs.Batch.{kept_columns}
 use Rattle.orc_row_batch.specs.Keeping.{AddsCells}
 use Rattle.orc_row_batch.proofs.KeepSteps.{FieldsKept}
 use Rattle.orc_row_batch.proofs.keeping.+keeping.Given as goal
 
 -- the columns of the elements have those of the first parts more
 abbrev pub invariant-keep_elements-loop-part : goal.invariant-keep_elements-loop-part
-invariant-keep_elements-loop-part l = AddsCells (shape l.element) l.column (views (take l.part-index l.parts)) (columns_of l.initial.columns.items) (columns_of l.columns.items)
+invariant-keep_elements-loop-part l = AddsCells (shape l.element) l.column (views (take l.part-index l.parts)) (kept_columns l.initial.columns.items) (kept_columns l.columns.items)
 
 -- the columns of the keys, or of the values, have those of the first pairs more
 abbrev pub invariant-keep_keys-loop-pair : goal.invariant-keep_keys-loop-pair
-invariant-keep_keys-loop-pair l = AddsCells (shape l.key) l.column (map (λ p. p.0) (map paired (take l.pair-index l.pairs))) (columns_of l.initial.columns.items) (columns_of l.columns.items)
+invariant-keep_keys-loop-pair l = AddsCells (shape l.key) l.column (map (λ p. p.0) (map paired (take l.pair-index l.pairs))) (kept_columns l.initial.columns.items) (kept_columns l.columns.items)
 
 abbrev pub invariant-keep_values-loop-pair : goal.invariant-keep_values-loop-pair
-invariant-keep_values-loop-pair l = AddsCells (shape l.value) l.column (map (λ p. p.1) (map paired (take l.pair-index l.pairs))) (columns_of l.initial.columns.items) (columns_of l.columns.items)
+invariant-keep_values-loop-pair l = AddsCells (shape l.value) l.column (map (λ p. p.1) (map paired (take l.pair-index l.pairs))) (kept_columns l.initial.columns.items) (kept_columns l.columns.items)
 
 -- the fields so far, before those that are left
 abbrev pub invariant-keep_fields-loop-place : goal.invariant-keep_fields-loop-place
-invariant-keep_fields-loop-place l = FieldsKept l.fields l.parts l.column l.next l.place (columns_of l.initial.columns.items) (columns_of l.columns.items)
+invariant-keep_fields-loop-place l = FieldsKept l.fields l.parts l.column l.next l.place (kept_columns l.initial.columns.items) (kept_columns l.columns.items)
 
 abbrev pub decreases-keep_cell : goal.decreases-keep_cell
 decreases-keep_cell l = 2 * width (shape l.tree.now)

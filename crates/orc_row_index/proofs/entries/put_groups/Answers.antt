@@ -5,15 +5,18 @@ use Rattle.orc_wire.proofs.PutLemmas.{keeps_more, text_fits}
 use Rattle.orc_values.specs.Views.{shape}
 use Rattle.orc_stats.specs.Kinds.{is_of}
 use Rattle.orc_stats.specs.Tallies.{cells_kept}
-use Rattle.orc_row_index.specs.Bounds.{AreBounds, bound_at, before_group, group_of}
-use Rattle.orc_row_index.specs.OwnCells.{own_cells}
+use Rattle.orc_row_groups.specs.Bounds.{AreBounds, bound_at, before_group, group_of}
+use Rattle.orc_row_groups.specs.OwnCells.{own_cells}
 use Rattle.orc_row_index.specs.RowIndex.{AreEntries}
 use Rattle.orc_row_index.proofs.EntryTexts.{index_spelled}
 use Rattle.orc_row_index.proofs.GroupFolds.{part_so, part_short, kept_first, kept_more, kept_all, group_room}
-use Rattle.orc_row_index.proofs.Groups.{bound_within, bound_read, bound_rises, own_front, own_group, stands_none, stands_more, front_there, group_few, group_between, take_short, values_few}
-use Rattle.orc_row_index.proofs.OwnLemmas.{owns_long, own_count, owns_kind, own_stat}
+use Rattle.orc_row_index.proofs.Groups.{stands_none, stands_more, front_there}
+use Rattle.orc_row_groups.proofs.Groups.{bound_within, bound_read, bound_rises, own_front, own_group, group_few, group_between, take_short}
+use Rattle.orc_row_index.proofs.OwnLemmas.{owns_kind, own_stat}
+use Rattle.orc_row_groups.proofs.OwnLemmas.{owns_long, own_count}
 use Rattle.orc_row_index.proofs.WrittenIndex.{entries_whole}
 use Rattle.orc_row_index.proofs.entries.put_groups.Goals as goal
+use Rattle.orc_values.proofs.Lists.{values_few}
 
 on_ok : {T E : Type 0} (Q : Type 0) (r : Result T E) → Q → OnOk r Q
 on_ok Q (Ok x) q = q

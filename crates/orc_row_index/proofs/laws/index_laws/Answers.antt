@@ -1,5 +1,5 @@
 use Rattle.orc_row_index.proofs.ColumnPlaces.{places_read, one_places}
-use Rattle.orc_row_index.proofs.Groups.{element_bounds_are, key_bounds_are, value_bounds_are, field_bounds_are}
+use Rattle.orc_row_groups.proofs.Groups.{element_bounds_are, key_bounds_are, value_bounds_are, field_bounds_are}
 use Rattle.orc_row_index.proofs.WrittenIndex.{one_index, index_right}
 use Rattle.orc_row_index.proofs.laws.index_laws.Goals as goal
 

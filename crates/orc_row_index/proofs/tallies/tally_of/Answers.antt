@@ -1,6 +1,6 @@
 use Rattle.std.proofs.Common.{◌+◌, refl, ap, ◌∙◌, drop}
 use Rattle.orc_stats.specs.Tallies.{together, cells_kept}
-use Rattle.orc_row_index.specs.OwnCells.{own_cells}
+use Rattle.orc_row_groups.specs.OwnCells.{own_cells}
 use Rattle.orc_row_index.proofs.OwnLemmas.{owns_none, owns_more, owns_fit, own_kind}
 use Rattle.orc_row_index.proofs.tallies.tally_of.Goals as goal
 

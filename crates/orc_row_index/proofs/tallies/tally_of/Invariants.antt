@@ -1,6 +1,6 @@
 use Rattle.std.proofs.Common.{◌≡◌, drop}
 use Rattle.orc_stats.specs.Tallies.{together, cells_kept}
-use Rattle.orc_row_index.specs.OwnCells.{own_cells}
+use Rattle.orc_row_groups.specs.OwnCells.{own_cells}
 use Rattle.orc_row_index.proofs.tallies.tally_of.Given as goal
 
 abbrev pub invariant-loop-own : goal.invariant-loop-own

@@ -2,7 +2,7 @@ use Rattle.std.specs.Prelude.{MatchBool}
 use Rattle.std.proofs.Common.{◌≡◌, ◌∙◌, ℕ, Some, List, length, slice_get, refl, sym, ap, subst, arith, ltb-true}
 use Rattle.std.proofs.lemmas.Option.{slice_get_read}
 use Rattle.orc_values.specs.Views.{shape}
-use Rattle.orc_row_index.specs.Bounds.{bound_at, before_group}
+use Rattle.orc_row_groups.specs.Bounds.{bound_at, before_group}
 use Rattle.orc_row_index.specs.Positions.{ArePositions, reader}
 use Rattle.orc_row_index.specs.RunStreams.{RunStream, kind_of_values}
 use Rattle.orc_row_index.specs.Walking.{runs, lent_bytes}

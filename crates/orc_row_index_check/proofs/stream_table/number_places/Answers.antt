@@ -6,7 +6,7 @@ use Rattle.orc_positions.specs.RunTable.{ArePlaces}
 use Rattle.orc_column_reader.specs.Numbers.{is_run}
 use Rattle.orc_column_reader.specs.RunFaults.{no_run}
 use Rattle.orc_rle.specs.declared.sign.Rle.{Rle}
-use Rattle.orc_row_index.specs.Walking.{most}
+use Rattle.orc_row_groups.specs.Counts.{most}
 use Rattle.orc_row_index_check.proofs.stream_table.number_places.Goals as goal
 
 pub returns-in-One-clause-found : goal.returns-in-One-clause-found

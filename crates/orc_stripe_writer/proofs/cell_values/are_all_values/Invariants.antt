@@ -1,5 +1,5 @@
 use Rattle.std.proofs.Common.{◌≡◌, drop, map}
-use Rattle.orc_row_index.specs.OwnCells.{own_cells}
+use Rattle.orc_row_groups.specs.OwnCells.{own_cells}
 use Rattle.std.specs.List.{list_all}
 use Rattle.orc_values.specs.Cells.{is_value}
 use Rattle.orc_stripe_writer.proofs.cell_values.are_all_values.Given as goal

@@ -1,5 +1,5 @@
 use Rattle.std.proofs.Common.{◌≡◌, take}
-use Rattle.orc_row_index.specs.OwnCells.{own_cells}
+use Rattle.orc_row_groups.specs.OwnCells.{own_cells}
 use Rattle.orc_stripe_writer.specs.CellValues.{all_bytes_in}
 use Rattle.orc_stripe_writer.specs.Dictionary.{byte_strings}
 use Rattle.orc_stripe_writer.proofs.cell_values.byte_strings_of.Given as goal

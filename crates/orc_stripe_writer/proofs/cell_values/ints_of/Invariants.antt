@@ -1,5 +1,5 @@
 use Rattle.std.proofs.Common.{◌≡◌, take}
-use Rattle.orc_row_index.specs.OwnCells.{own_cells}
+use Rattle.orc_row_groups.specs.OwnCells.{own_cells}
 use Rattle.orc_rle.specs.declared.sign.Sign.TheVariants.{Signed}
 use Rattle.orc_rle.specs.Values.{AllInRange}
 use Rattle.orc_stripe_writer.specs.CellValues.{ints_in}

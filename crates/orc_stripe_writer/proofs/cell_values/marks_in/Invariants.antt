@@ -1,5 +1,5 @@
 use Rattle.std.proofs.Common.{◌≡◌, take, map}
-use Rattle.orc_row_index.specs.OwnCells.{own_cells}
+use Rattle.orc_row_groups.specs.OwnCells.{own_cells}
 use Rattle.orc_values.specs.Cells.{is_value}
 use Rattle.orc_stripe_writer.proofs.cell_values.marks_in.Given as goal
 

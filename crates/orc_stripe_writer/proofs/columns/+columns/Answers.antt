@@ -9,16 +9,17 @@ use Rattle.orc_values.specs.declared.own.Own.{Own}
 use Rattle.orc_values.proofs.ByColumn.{width_within}
 use Rattle.orc_values.proofs.Views.{shape-Scalar, shape-List, shape-Map, shape-Struct}
 use Rattle.orc_row_batch.specs.Batch.{kept_rows}
-use Rattle.orc_row_index.specs.Bounds.{AreBounds, elements_before, pairs_before, values_before}
-use Rattle.orc_row_index.specs.OwnCells.{own_cells, AreOwn}
-use Rattle.orc_row_index.proofs.Groups.{keys_long}
-use Rattle.orc_row_index.proofs.OwnLemmas.{owns_long, own_count, all_elements, own_elements, all_pairs, own_pairs, own_values}
+use Rattle.orc_row_groups.specs.Bounds.{AreBounds, elements_before, pairs_before, values_before}
+use Rattle.orc_row_groups.specs.OwnCells.{own_cells, AreOwn}
+use Rattle.orc_row_groups.proofs.Groups.{keys_long}
+use Rattle.orc_row_groups.proofs.OwnLemmas.{owns_long, own_count, all_elements, own_elements, all_pairs, own_pairs, own_values}
 use Rattle.orc_stripe_writer.specs.Firsts.{firsts_of}
 use Rattle.orc_stripe_writer.specs.Standing.{ColumnStands, FieldsStand, structs_in}
 use Rattle.orc_stripe_writer.specs.WrittenStripe.{AreFew}
 use Rattle.orc_stripe_writer.specs.Subtrees.{HasWritten}
-use Rattle.orc_stripe_writer.proofs.SubtreeLemmas.{type_from, few_here, few_elements, few_pairs}
-use Rattle.orc_stripe_writer.proofs.GroupLemmas.{bounds_here}
+use Rattle.orc_stripe_writer.proofs.SubtreeLemmas.{few_here, few_elements, few_pairs}
+use Rattle.orc_row_groups.proofs.SubtreeLemmas.{type_from}
+use Rattle.orc_row_groups.proofs.GroupLemmas.{bounds_here}
 use Rattle.orc_stripe_writer.proofs.StandingLemmas.{element_stands, keys_stand, map_values_stand, fields_stand, first_stands, others_stand, wide_left, none_wide}
 use Rattle.orc_stripe_writer.proofs.columns.+columns.Goals as goal
 

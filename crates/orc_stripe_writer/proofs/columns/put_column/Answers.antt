@@ -1,9 +1,9 @@
 use Rattle.std.proofs.Common.{◌≡◌, ℕ, ◌<◌, length, drop, ◌∙◌, subst, arith, rules}
 use Rattle.orc_values.specs.Views.{shape}
-use Rattle.orc_column_reader.specs.Stripe.{cell_limit}
+use Rattle.orc_values.specs.Limits.{cell_limit}
 use Rattle.orc_row_index.specs.OwnCells.{AreSpelledOwn}
 use Rattle.orc_row_index.specs.RowIndex.{IsWrittenIndex}
-use Rattle.orc_row_index.proofs.OwnLemmas.{own_count}
+use Rattle.orc_row_groups.proofs.OwnLemmas.{own_count}
 use Rattle.orc_stripe_writer.specs.IndexSteps.{AddsIndexIf}
 use Rattle.orc_stripe_writer.specs.Indexes.{streams_written}
 use Rattle.orc_stripe_writer.specs.WrittenStripe.{column_bytes, column_lines}

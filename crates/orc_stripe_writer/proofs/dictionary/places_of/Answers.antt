@@ -3,15 +3,16 @@ use Rattle.std.specs.Option.{is_some}
 use Rattle.orc_rle.specs.declared.sign.Sign.TheVariants.{Unsigned}
 use Rattle.orc_rle.specs.Values.{InRange, AllInRange}
 use Rattle.orc_stripe_writer.specs.Dictionary.{byte_strings, AreNamed}
-use Rattle.orc_stripe_writer.proofs.PlacesLemmas.{string_there, named_more, in_range_more, untrue}
+use Rattle.orc_stripe_writer.proofs.PlacesLemmas.{string_there, named_more, in_range_more}
 use Rattle.orc_stripe_writer.proofs.dictionary.places_of.Goals as goal
+use Rattle.std.proofs.lemmas.Bool.{false≢true}
 
 pub unreachable-requires : goal.unreachable-requires
 unreachable-requires c =
     let string = get_or c.args.strings.now c.loop-string.string-index _ in
     let known : is_some {T = ℕ} None ≡ true = subst (λ (told : Option ℕ). is_some told ≡ true) (sym c.in-None.ensures.value)
     (c.in_ok-known.ensures.known string (c.requires.there string.0.now (string_there c.args.strings.now c.loop-string.string-index _ c.loop-string-test.true))) in
-    untrue known
+    false≢true known
 
 pub loop-string-preserved : goal.loop-string-preserved
 loop-string-preserved c =

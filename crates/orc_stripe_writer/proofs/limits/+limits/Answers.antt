@@ -10,7 +10,8 @@ use Rattle.orc_values.proofs.ByColumn.{width_within, parts_values, keys_values, 
 use Rattle.orc_values.proofs.Views.{shape-List, shape-Map, shape-Struct}
 use Rattle.orc_stripe_writer.specs.WrittenStripe.{AreFew}
 use Rattle.orc_stripe_writer.proofs.CellValuesLemmas.{cells_long}
-use Rattle.orc_stripe_writer.proofs.SubtreeLemmas.{heads_at, few_elements, few_pairs, few_fields, few_list, few_map, few_struct, few_begin, few_step, few_first_not}
+use Rattle.orc_stripe_writer.proofs.SubtreeLemmas.{few_elements, few_pairs, few_fields, few_list, few_map, few_struct, few_begin, few_step, few_first_not}
+use Rattle.orc_row_groups.proofs.SubtreeLemmas.{heads_at}
 use Rattle.orc_stripe_writer.proofs.limits.+limits.Goals as goal
 
 pub columns_are_few-returns-in_ok-elements-in-List-clause-yes : goal.columns_are_few-returns-in_ok-elements-in-List-clause-yes

@@ -1,5 +1,5 @@
 use Rattle.std.proofs.Common.{◌∙◌}
-use Rattle.orc_row_index.specs.OwnCells.{own_cells}
+use Rattle.orc_row_groups.specs.OwnCells.{own_cells}
 use Rattle.orc_stripe_writer.specs.CellValues.{bools_in}
 use Rattle.orc_stripe_writer.proofs.AddingLemmas.{bits_added}
 use Rattle.orc_stripe_writer.proofs.put_column.put_bools.Goals as goal

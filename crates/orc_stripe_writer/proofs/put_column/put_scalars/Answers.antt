@@ -7,11 +7,11 @@ use Rattle.orc_values.specs.declared.kind.Scalar.TheVariants as kind
 use Rattle.orc_values.specs.Shapes.{scalar}
 use Rattle.orc_values.specs.Cells.{Cell, values}
 use Rattle.orc_values.specs.Fits.{RowsFit}
-use Rattle.orc_row_index.specs.OwnCells.{own_cells}
+use Rattle.orc_row_groups.specs.OwnCells.{own_cells}
 use Rattle.orc_stripe_writer.specs.declared.body.Body.{Body}
 use Rattle.orc_stripe_writer.specs.CellValues.{bools_in, number_bytes_in, ints_in, all_bytes_in}
 use Rattle.orc_stripe_writer.specs.Dictionary.{byte_strings}
-use Rattle.orc_stripe_writer.specs.WrittenColumn.{Written, HasBits, HasBytes, HasNumbers, HasStrings, HasTexts, WritesValues}
+use Rattle.orc_stripe_writer.specs.WrittenColumn.{Written, WritesBooleans, HasBytes, HasNumbers, HasStrings, HasTexts, WritesValues}
 use Rattle.orc_stripe_writer.specs.Adding.{AddsValues}
 use Rattle.orc_stripe_writer.proofs.AddingLemmas.{adds_weaker}
 use Rattle.orc_stripe_writer.proofs.CellValuesLemmas.{short_is, int_is, long_is, bools_stand, number_bytes_stand, ints_stand, dates_stand, texts_stand, binaries_stand}
@@ -27,8 +27,8 @@ of_kind rle j k o cs P c b d e is fit f h =
 
 pub returns-in-Boolean : goal.returns-in-Boolean
 returns-in-Boolean c = λ o cs own fit. let os = own_cells c.args.owns.now in
-    IfOk-weaker c.put_bools.result _ _ (λ e h. of_kind c.args.rle kind.Boolean c.args.kind o cs (λ w. HasBits w (bools_in os)) c.args.column c.args.body.now c.put_bools.new.body e c.in-Boolean.is fit
-    (λ g w p. (bools_in cs, bools_stand o cs g, subst (λ bs. HasBits w bs) (own_bools c.args.owns.now cs own) p)) h) c.put_bools.ensures
+    IfOk-weaker c.put_bools.result _ _ (λ e h. of_kind c.args.rle kind.Boolean c.args.kind o cs (λ w. WritesBooleans w (bools_in os)) c.args.column c.args.body.now c.put_bools.new.body e c.in-Boolean.is fit
+    (λ g w p. (bools_in cs, bools_stand o cs g, subst (λ bs. WritesBooleans w bs) (own_bools c.args.owns.now cs own) p)) h) c.put_bools.ensures
 
 pub returns-in-Byte : goal.returns-in-Byte
 returns-in-Byte c = λ o cs own fit. let os = own_cells c.args.owns.now in

@@ -4,7 +4,7 @@ use Rattle.orc_values.specs.Shapes.{Shape, scalar, list_of, map_of, struct_of}
 use Rattle.orc_values.specs.Cells.{values}
 use Rattle.orc_values.specs.Fits.{RowsFit}
 use Rattle.orc_values.specs.Views.{shape, fields}
-use Rattle.orc_row_index.specs.OwnCells.{own_cells}
+use Rattle.orc_row_groups.specs.OwnCells.{own_cells}
 use Rattle.orc_values.proofs.Views.{shape-Scalar, shape-List, shape-Map, shape-Struct}
 use Rattle.orc_stripe_writer.specs.CellValues.{sizes_in}
 use Rattle.orc_stripe_writer.specs.WrittenColumn.{HasSizes, WritesValues}

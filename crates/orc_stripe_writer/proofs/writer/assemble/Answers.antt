@@ -9,7 +9,7 @@ use Rattle.orc_wire.specs.CanonicalMessages.{stripe_footer_text, encoding_text}
 use Rattle.orc_wire.specs.Spells.{Spells}
 use Rattle.orc_values.specs.Shapes.{Shape, width}
 use Rattle.orc_values.specs.Cells.{Cell}
-use Rattle.orc_stripe_writer.specs.Groups.{starts}
+use Rattle.orc_row_groups.specs.Groups.{starts_of_groups}
 use Rattle.orc_stripe_writer.specs.Indexes.{index_bytes, HaveIndexes}
 use Rattle.orc_stripe_writer.specs.WrittenStripe.{HasColumns, indexed_columns, IsWrittenStripe}
 use Rattle.orc_stripe_writer.specs.declared.body.Body.{Body}
@@ -21,7 +21,7 @@ all_so P Q [] f h = tt
 all_so P Q (e ∷ es) f h = (f e h.0, all_so P Q es f h.1)
 
 joined_is : (rle : Rle) (stride : ℕ) (s : Shape) (rows : List Cell) (streams front all : List ℕ) (lines : List StreamMsg) (body : Body) (f : StripeFooter) (n i m e : ℕ) → length rows ≡ n
-    → (h : HasColumns rle s rows (width s) streams lines f.columns) → HaveIndexes s rows (starts stride (length rows)) h.columns (indexed_columns stride (width s)) body → f.streams ≡ body.directory.items ++ lines
+    → (h : HasColumns rle s rows (width s) streams lines f.columns) → HaveIndexes s rows (starts_of_groups stride (length rows)) h.columns (indexed_columns stride (width s)) body → f.streams ≡ body.directory.items ++ lines
     → front ≡ body.bytes.items ++ streams → all ≡ front ++ stripe_footer_text.text f → Spells stripe_footer 0 0 (stripe_footer_text.text f) f → i ≡ length body.bytes.items → m ≡ length front → e ≡ length all
     → IsWrittenStripe rle stride s rows (record { offset = 0; index_length = i; data_length = m - i; footer_length = e - m; number_of_rows = n }) all
 joined_is rle stride s rows streams front all lines body f n i m e rows_are h x listed fe ae spelled ie me ee =

@@ -1,4 +1,4 @@
-use Rattle.orc_file.specs.FileRows.{joined}
+use Rattle.orc_file_reader.specs.FileRows.{rows_together}
 use Rattle.orc_theorems.proofs.BeforeLemmas.{starts_before, footer_before}
 use Rattle.orc_theorems.proofs.FilesBefore.{lines_before, ends_before}
 use Rattle.orc_theorems.proofs.groups_of_rows.reading_from_the_middle.Goals as goal
@@ -18,8 +18,8 @@ returns-clause-merged c = λ groups out parts wrote found.
       is.0,
       is.1,
       is.2,
-      c.start_laws.ensures out is.0 (joined parts) is.1 is.2,
-      λ stripe group lines printed. c.place_laws.ensures.lines out is.0 (joined parts) stripe group lines is.1 is.2 printed,
+      c.start_laws.ensures out is.0 (rows_together parts) is.1 is.2,
+      λ stripe group lines printed. c.place_laws.ensures.lines out is.0 (rows_together parts) stripe group lines is.1 is.2 printed,
     )
 
 pub returns-clause-alone : goal.returns-clause-alone

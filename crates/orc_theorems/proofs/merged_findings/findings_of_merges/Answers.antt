@@ -1,6 +1,6 @@
-use Rattle.orc_file.specs.FileRows.{joined}
+use Rattle.orc_file_reader.specs.FileRows.{rows_together}
 use Rattle.orc_check.proofs.NoFinding.{whole_tells}
-use Rattle.orc_merger.specs.Grouping.{all_leaves}
+use Rattle.orc_merge_laws.specs.Grouping.{all_leaves}
 use Rattle.orc_theorems.proofs.MergedIndexes.{merged_indexes, are_files, are_honest}
 use Rattle.orc_theorems.proofs.merged_findings.findings_of_merges.Goals as goal
 
@@ -10,9 +10,9 @@ returns-clause-merged c = λ files tail out parts merge few found.
     let is = c.grouping.ensures.rows files tail out parts merge few (are_files files parts found) in
     let honest = are_honest none files parts found in (
       is,
-      (none out tail (joined parts) is).1 (
+      (none out tail (rows_together parts) is).1 (
         c.orders.ensures.honest files tail out parts merge honest,
-        whole_tells tail (joined parts) (c.orders.ensures.whole files tail out parts merge honest),
+        whole_tells tail (rows_together parts) (c.orders.ensures.whole files tail out parts merge honest),
         merged_indexes none files tail out parts merge found,
       ),
     )
@@ -26,9 +26,9 @@ returns-clause-grouped c = λ groups out parts wrote found.
     let honest = are_honest none (all_leaves groups) parts found in (
       flat.0,
       is,
-      (none out flat.0 (joined parts) is).1 (
+      (none out flat.0 (rows_together parts) is).1 (
         c.orders.ensures.honest (all_leaves groups) flat.0 out parts flat.1 honest,
-        whole_tells flat.0 (joined parts) (c.orders.ensures.whole (all_leaves groups) flat.0 out parts flat.1 honest),
+        whole_tells flat.0 (rows_together parts) (c.orders.ensures.whole (all_leaves groups) flat.0 out parts flat.1 honest),
         merged_indexes none (all_leaves groups) flat.0 out parts flat.1 found,
       ),
     )

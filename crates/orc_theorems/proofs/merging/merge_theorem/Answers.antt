@@ -1,9 +1,9 @@
 use Rattle.std.proofs.Common.{◌∙◌, ℕ, List, ap, subst}
 use Rattle.orc_io.specs.Devices.{appended}
-use Rattle.orc_file.specs.FileRows.{joined}
+use Rattle.orc_file_reader.specs.FileRows.{rows_together}
 use Rattle.orc_tail.specs.declared.tail.Tail.{Tail}
 use Rattle.orc_merger.specs.Merging.{IsMerge}
-use Rattle.orc_merger.specs.Grouping.{merge, all_leaves, Wrote}
+use Rattle.orc_merge_laws.specs.Grouping.{merge, all_leaves, Wrote}
 use Rattle.orc_theorems.proofs.SumLemmas.{honest_have_rows, sum_told}
 use Rattle.orc_theorems.proofs.merging.merge_theorem.Goals as goal
 
@@ -64,8 +64,8 @@ pub returns-clause-sums : goal.returns-clause-sums
 returns-clause-sums c = λ files tail out parts column is few honest lt.
     let whole = c.orders.ensures.whole files tail out parts is honest in
     let rows = c.grouping.ensures.rows files tail out parts is few (honest_have_rows files parts honest) in
-    let cut = c.row_laws.ensures.whole tail.stripes out tail.schema (joined parts) rows.has_rows in
-    sum_told c.orders.ensures.sum tail (joined parts) cut whole column lt
+    let cut = c.row_laws.ensures.whole tail.stripes out tail.schema (rows_together parts) rows.has_rows in
+    sum_told c.orders.ensures.sum tail (rows_together parts) cut whole column lt
 
 pub returns-clause-refused : goal.returns-clause-refused
 returns-clause-refused c = c.grouping.ensures.refused

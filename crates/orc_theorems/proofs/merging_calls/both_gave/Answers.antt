@@ -1,6 +1,6 @@
 use Rattle.std.proofs.Common.{inl, inr}
 use Rattle.std.proofs.lemmas.Result.{IfOk-at_ok, IfErr-at_err, err_from_is_err_and}
-use Rattle.orc_merger.specs.Grouping.{Wrote}
+use Rattle.orc_merge_laws.specs.Grouping.{Wrote}
 use Rattle.orc_merger.specs.declared.fault.MergeFault.{MergeFault}
 use Rattle.orc_theorems.specs.Groupings.{first_two, last_two, IsStepAnswer}
 use Rattle.orc_theorems.specs.declared.memory.FileInMemory.{FileInMemory}

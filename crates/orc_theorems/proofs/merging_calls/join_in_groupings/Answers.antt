@@ -1,6 +1,6 @@
 use Rattle.std.proofs.Common.{◌∙◌, ℕ, List, [], ◌∷◌, inr, sym, subst}
 use Rattle.std.proofs.lemmas.Result.{err_from_is_err_and}
-use Rattle.orc_merger.specs.Grouping.{Wrote}
+use Rattle.orc_merge_laws.specs.Grouping.{Wrote}
 use Rattle.orc_theorems.specs.Groupings.{first_two, last_two}
 use Rattle.orc_theorems.proofs.StepLemmas.{merge_of, first_two_same, last_two_same, given_is, only_step, either_more}
 use Rattle.orc_theorems.proofs.merging_calls.join_in_groupings.Goals as goal

@@ -1,8 +1,8 @@
 use Rattle.std.proofs.Common.{◌≡◌, ◌++◌, ℕ, false, List, Option, drop}
 use Rattle.orc_values.specs.Cells.{Cell}
 use Rattle.orc_values.specs.Views.{views}
-use Rattle.orc_file.specs.Progress.{progress}
-use Rattle.orc_file.specs.Writing.{HasPushed}
+use Rattle.orc_file_writer.specs.Progress.{progress}
+use Rattle.orc_file_writer.specs.Writing.{HasPushed}
 use Rattle.orc_theorems.proofs.written_files_calls.push_rows.Given as goal
 
 -- some rows are pushed, and with those that are left they are all

@@ -1,5 +1,5 @@
-use Rattle.orc_file.specs.FileRows.{joined}
-use Rattle.orc_merger.specs.Grouping.{all_leaves}
+use Rattle.orc_file_reader.specs.FileRows.{rows_together}
+use Rattle.orc_merge_laws.specs.Grouping.{all_leaves}
 use Rattle.orc_theorems.specs.WrittenIndexes.{IsIndexedAsWritten}
 use Rattle.orc_theorems.proofs.MergedStripes.{have_rows, merged_stripes}
 use Rattle.orc_theorems.proofs.IndexesAsWritten.{as_written_moved, file_indexed, files_indexed, files_hold}
@@ -43,4 +43,4 @@ returns-clause-in_merges c = λ groups out parts wrote were.
     let flat = c.grouping.ensures.back groups out gave.0 gave.1 in
     let holds = files_hold (all_leaves groups) parts (files_indexed (all_leaves groups) parts were) in
     let is = c.grouping.ensures.rows (all_leaves groups) flat.0 out parts flat.1 wrote.4 (have_rows IsIndexedAsWritten (all_leaves groups) parts holds) in
-    (flat.0, is, file_reads_one out flat.0 (joined parts) is (merged_stripes IsIndexedAsWritten as_written_moved (all_leaves groups) flat.0 out parts flat.1 holds))
+    (flat.0, is, file_reads_one out flat.0 (rows_together parts) is (merged_stripes IsIndexedAsWritten as_written_moved (all_leaves groups) flat.0 out parts flat.1 holds))

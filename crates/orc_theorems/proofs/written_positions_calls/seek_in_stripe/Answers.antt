@@ -1,11 +1,11 @@
 use Rattle.std.proofs.Common.{◌≡◌, ◌∙◌, ℕ, ◌<◌, List, length, sym, ap, arith}
-use Rattle.orc_tail.specs.Stripes.{stripe_at}
-use Rattle.orc_file.specs.FileRows.{stripe_bytes, cut_rows}
+use Rattle.orc_tail.specs.Stripes.{stripe_at, stripe_bytes}
+use Rattle.orc_file_reader.specs.FileRows.{cut_rows}
 use Rattle.orc_tail.specs.declared.tail.Tail.{Tail}
 use Rattle.orc_check.specs.Findings.{rows_at}
-use Rattle.orc_theorems.proofs.Told.{at_told}
 use Rattle.orc_theorems.proofs.SoughtLemmas.{view_reads}
 use Rattle.orc_theorems.proofs.written_positions_calls.seek_in_stripe.Goals as goal
+use Rattle.orc_io.proofs.Told.{at_told}
 
 pub returns-in-Ok : goal.returns-in-Ok
 returns-in-Ok g c = λ bytes rows told reads.

@@ -2,7 +2,7 @@ use Rattle.std.proofs.Common.{◌≡◌, ◌∙◌, ℕ, List, length, ap, sym, 
 use Rattle.orc_wire.specs.declared.stripe_footer.StripeFooter.{StripeFooter}
 use Rattle.orc_values.specs.Shapes.{Shape, shape_at, width}
 use Rattle.orc_values.specs.Views.{shape}
-use Rattle.orc_column_reader.specs.Located.{AreLocated}
+use Rattle.orc_directory.specs.Located.{AreLocated}
 use Rattle.orc_column_reader.specs.Starting.{AreStreams}
 use Rattle.orc_column_reader.specs.Stripe.{columns_of}
 use Rattle.orc_row_index.specs.Walking.{ArePlaced}

@@ -1,6 +1,6 @@
 use Rattle.std.proofs.Common.{◌≡◌, ◌∙◌, ℕ, List, [], Some, refl, sym, subst}
 use Rattle.orc_values.specs.Views.{views}
-use Rattle.orc_file.specs.FileRows.{FileIs}
+use Rattle.orc_file_reader.specs.FileRows.{FileIs}
 use Rattle.orc_theorems.specs.OneRunPositions.{ReadsOneRun}
 use Rattle.orc_theorems.proofs.Told.{bytes_are}
 use Rattle.orc_theorems.proofs.written_positions_calls.write_and_seek.Goals as goal

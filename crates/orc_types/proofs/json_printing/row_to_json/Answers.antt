@@ -1,7 +1,7 @@
 use Rattle.std.proofs.Common.{◌≡◌, true, sym, ◌∙◌}
 use Rattle.orc_values.specs.Views.{view}
-use Rattle.orc_types.specs.FieldNames.{is_distinct}
-use Rattle.orc_types.proofs.JsonBack.{reads_back}
+use Rattle.orc_json_rows.specs.FieldNames.{is_distinct}
+use Rattle.orc_json_rows.proofs.JsonBack.{reads_back}
 use Rattle.orc_types.proofs.json_printing.row_to_json.Goals as goal
 
 pub returns-clause-again : goal.returns-clause-again

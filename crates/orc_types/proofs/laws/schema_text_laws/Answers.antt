@@ -1,6 +1,6 @@
 use Rattle.std.proofs.Common.{sym, ◌∙◌}
-use Rattle.orc_types.proofs.OneText.{one_whole}
-use Rattle.orc_types.proofs.TextExclusion.{no_text_schema}
+use Rattle.orc_trees.proofs.OneText.{one_whole}
+use Rattle.orc_types.proofs.TextSchemas.{no_text_schema}
 use Rattle.orc_types.proofs.Bare.{bare_text}
 use Rattle.orc_types.proofs.laws.schema_text_laws.Goals as goal
 

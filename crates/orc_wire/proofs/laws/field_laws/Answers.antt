@@ -1,7 +1,7 @@
-use Rattle.orc_wire.specs.FieldLaws.{one_field, none_field}
-use Rattle.orc_wire.specs.FaultLaws.{one_no_field}
-use Rattle.orc_wire.specs.FieldCover.{some_field}
-use Rattle.orc_wire.specs.SpellsLaws.{one_fields}
+use Rattle.orc_wire.specs.laws.FieldLaws.{one_field, none_field}
+use Rattle.orc_wire.specs.laws.FaultLaws.{one_no_field}
+use Rattle.orc_wire.specs.laws.FieldCover.{some_field}
+use Rattle.orc_wire.specs.laws.SpellsLaws.{one_fields}
 use Rattle.orc_wire.proofs.laws.field_laws.Goals as goal
 
 pub returns-clause-one_field : goal.returns-clause-one_field

@@ -1,7 +1,7 @@
 use Rattle.orc_wire.specs.Kinds.{message}
 use Rattle.orc_wire.specs.Canonical.{spells_again}
-use Rattle.orc_wire.specs.SpellsLaws.{one_spelled, none_spelled, one_refusal}
-use Rattle.orc_wire.specs.SpellsCover.{some_spelled}
+use Rattle.orc_wire.specs.laws.SpellsLaws.{one_spelled, none_spelled, one_refusal}
+use Rattle.orc_wire.specs.laws.SpellsCover.{some_spelled}
 use Rattle.orc_wire.proofs.TableLaws.{each_parts, only_parts}
 use Rattle.orc_wire.proofs.laws.message_laws.Goals as goal
 

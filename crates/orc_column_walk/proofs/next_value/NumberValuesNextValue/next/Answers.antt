@@ -4,8 +4,8 @@ use Rattle.orc_values.specs.Own.{own_cell}
 use Rattle.orc_values.specs.declared.kind.Scalar.TheVariants as kind
 use Rattle.orc_column_reader.specs.Fronts.{Leaves}
 use Rattle.orc_column_reader.specs.ReaderFaults.{ValuesMeet}
-use Rattle.orc_column_reader.specs.declared.fault.StripeFault.{StripeFault}
-use Rattle.orc_column_reader.specs.declared.fault.StripeFault.TheVariants.{OutOfMemory}
+use Rattle.orc_directory.specs.declared.fault.StripeFault.{StripeFault}
+use Rattle.orc_directory.specs.declared.fault.StripeFault.TheVariants.{OutOfMemory}
 use Rattle.orc_column_walk.specs.OwnLeft.{OwnValuesLeft}
 use Rattle.orc_column_walk.proofs.NextLemmas.{is_scalar}
 use Rattle.orc_column_walk.proofs.next_value.NumberValuesNextValue.next.Goals as goal

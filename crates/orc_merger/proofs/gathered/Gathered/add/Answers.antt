@@ -4,7 +4,7 @@ use Rattle.orc_tail.specs.Stripes.{stripes_length}
 use Rattle.orc_merger.specs.Merging.{Agree, HasStatistics, all_pairs, all_stats, placed, distinct}
 use Rattle.orc_merger.specs.Gathering.{pieces_in}
 use Rattle.orc_merger.specs.Counts.{AreCounts}
-use Rattle.orc_merger.specs.PairPlaces.{ArePlaces}
+use Rattle.orc_merger.specs.PairPlaces.{ArePairPlaces}
 use Rattle.orc_merger.specs.declared.user_pairs.UserPairs.{UserPairs}
 use Rattle.orc_merger.proofs.NextInput.{pairs_so_far, next_pairs, next_stats, statistics_of, statistics_to, next_few, next_merges, placed_push, pieces_push, rows_push, end_push}
 use Rattle.orc_merger.proofs.gathered.Gathered.add.Goals as goal
@@ -64,7 +64,7 @@ returns-clause-gathered c = λ first tail tails n.
       end = end ∙ (λ i. n.gathered.end i + stripes_length (n.lists_are.stripes i)) ∙ end_push tails tail;
       stripe_stats = kept ∙ sym (next_stats first tail tails c.args.number c.args.lists c.args.self.now n);
       user = ap (λ v. v.pairs.items) c.in_ok-add_stripes.ensures.others.1 ∙ pairs.kept_are ∙ ap distinct (sym (next_pairs first tail tails c.args.number c.args.lists c.args.self.now n));
-      user_places = subst (λ (kept : UserPairs). ArePlaces kept.pairs.items kept.places) (sym c.in_ok-add_stripes.ensures.others.1) pairs.places;
+      user_places = subst (λ (kept : UserPairs). ArePairPlaces kept.pairs.items kept.places) (sym c.in_ok-add_stripes.ensures.others.1) pairs.places;
       rows = rows ∙ (λ i. n.gathered.rows i + n.lists_are.rows i) ∙ sym (rows_push tails tail);
       pieces = pieces ∙ (λ i. n.gathered.pieces i ++ pieces_in (n.number_is i) (n.lists_are.stripes i)) ∙ sym (pieces_push tails tail);
       counts = subst (AreCounts c.add_stripes.new.self.counts.items) (sym (next_stats first tail tails c.args.number c.args.lists c.args.self.now n)) (counts (all_stats tails) n.gathered.counts);

@@ -1,6 +1,6 @@
 use Rattle.std.proofs.Common.{◌≡◌, ◌∙◌, ◌-◌, length, take, drop, sym, ap, arith, length-drop}
 use Rattle.std.proofs.lemmas.List.{take_all}
-use Rattle.orc_row_index.specs.Positions.{octets}
+use Rattle.orc_row_groups.specs.Counts.{octets}
 use Rattle.orc_row_index.specs.Walking.{lent_bytes}
 use Rattle.orc_row_index_check.proofs.ColumnLemmas.{own_alone, own_first, own_behind, octets_there}
 use Rattle.orc_row_index_check.proofs.column_table.ColumnTable.own_right.Goals as goal

@@ -1,7 +1,7 @@
 use Rattle.std.proofs.Common.{◌∙◌, ap}
 use Rattle.orc_values.specs.Views.{view}
 use Rattle.orc_stats.specs.Tallies.{together, cell_kept}
-use Rattle.orc_stats.specs.OwnCells.{cell_childless}
+use Rattle.orc_stats.proofs.Childless.{cell_childless}
 use Rattle.orc_stats.proofs.tally.Tally.add.Goals as goal
 
 pub returns : goal.returns

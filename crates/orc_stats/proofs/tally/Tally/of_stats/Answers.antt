@@ -2,7 +2,7 @@ use Rattle.std.proofs.Common.{◌≡◌, ap, ◌∙◌, subst, refl, arith, IfOk
 use Rattle.orc_stats.specs.declared.stat.Stat.{Stat}
 use Rattle.orc_stats.specs.Tallies.{together, stats_kept, stat_of_kept}
 use Rattle.orc_stats.proofs.Folding.{stats_none, stats_more, stats_exceed, stat_kind, memory_fault, on_ok}
-use Rattle.orc_stats.specs.TallyLaws.{stats_kept_count}
+use Rattle.orc_stats.specs.laws.TallyLaws.{stats_kept_count}
 use Rattle.orc_stats.proofs.tally.Tally.of_stats.Goals as goal
 
 pub of_stat-requires : goal.of_stat-requires

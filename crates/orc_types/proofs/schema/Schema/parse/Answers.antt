@@ -1,12 +1,12 @@
 use Rattle.std.proofs.Common.{◌≤◌, length, sym, ◌∙◌, arith, append-nil}
 use Rattle.std.proofs.lemmas.Result.{err_from_is_err_and}
 use Rattle.orc_values.specs.Shapes.{width}
-use Rattle.orc_types.specs.SchemaText.{text}
+use Rattle.orc_trees.specs.SchemaText.{text}
 use Rattle.orc_values.specs.Views.{shape}
-use Rattle.orc_types.specs.declared.fault.TypeFault.TheVariants as fault
-use Rattle.orc_types.proofs.OneText.{one_whole}
-use Rattle.orc_types.proofs.TextExclusion.{no_text_schema}
-use Rattle.orc_types.proofs.TextSchemas.{front_width, text_schema}
+use Rattle.orc_trees.specs.declared.fault.TypeFault.TheVariants as fault
+use Rattle.orc_trees.proofs.OneText.{one_whole}
+use Rattle.orc_types.proofs.TextSchemas.{text_schema, no_text_schema}
+use Rattle.orc_trees.proofs.WholeTexts.{front_width}
 use Rattle.orc_types.proofs.schema.Schema.parse.Goals as goal
 
 pub returns-in_err-tree-clause-only : goal.returns-in_err-tree-clause-only

@@ -2,7 +2,7 @@ use Rattle.std.proofs.Common.{ℕ, ap, ◌∙◌, inl, inr}
 use Rattle.std.specs.Option.{is_some}
 use Rattle.std.proofs.lemmas.Result.{err_from_is_err_and}
 use Rattle.orc_wire.specs.Spells.{number_in}
-use Rattle.orc_wire.specs.SpellsLaws.{one_spelled, none_spelled, one_refusal}
+use Rattle.orc_wire.specs.laws.SpellsLaws.{one_spelled, none_spelled, one_refusal}
 use Rattle.orc_wire.specs.FieldItem.{item_of}
 use Rattle.orc_wire.proofs.ReadLemmas.{reads_next, reads_badly, reads_refused, reads_incomplete, reads_all, reads_done, reads_found}
 use Rattle.orc_wire.proofs.message.Message.read_fields.Goals as goal

@@ -1,0 +1,2 @@
+pub mod DirectoryLemmas
+pub mod LocatedLemmas

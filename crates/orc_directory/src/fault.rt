@@ -1,0 +1,128 @@
+//! Why bytes are no stripe.
+ghost use Rattle.std.specs.Prelude.{◌≡◌, ◌≢◌, ◌⊎◌};
+ghost use Rattle.orc_directory.specs.declared.fault.StripeFault.TheVariants as fault;
+ghost use Rattle.orc_wire.specs.declared.fault.WireFault.TheVariants as wire;
+ghost use Rattle.orc_rle.specs.declared.fault.RunFault.TheVariants as run;
+
+use orc_rle::RunFault;
+use orc_wire::WireFault;
+use std::alloc::{AllocError, AllocFailed};
+use thiserror::Error;
+
+/// The kinds of streams that a column's cells are read from.
+#[derive(Clone, Copy, Debug, PartialEq, Eq, Error)]
+pub enum StreamKind {
+    #[error("PRESENT")]
+    Present,
+    #[error("DATA")]
+    Data,
+    #[error("LENGTH")]
+    Length,
+    #[error("DICTIONARY_DATA")]
+    DictionaryData,
+}
+
+/// What of a stripe's index a fault speaks of.
+#[derive(Clone, Copy, Debug, PartialEq, Eq, Error)]
+pub enum Spot {
+    /// The stripe, whatever the column.
+    #[error("")]
+    Stripe,
+    /// A column, by its number.
+    #[error("({0})")]
+    Column(usize),
+    /// A stream of a column.
+    #[error("({0}, {1})")]
+    Stream(usize, StreamKind),
+}
+
+/// Why bytes are no stripe, with the number of the column, and the stream where one is concerned.
+#[derive(Clone, Copy, Debug, PartialEq, Eq, Error)]
+pub enum StripeFault {
+    /// The bytes aren't as many as the three lengths say, or the directory's streams don't lie in the
+    /// stripe, or one is named twice, or has no column.
+    #[error("stripe 1 BadDirectory")]
+    BadDirectory,
+    /// The column has no encoding, or one that its type can't have.
+    #[error("stripe 2 BadEncoding({0})")]
+    BadEncoding(usize),
+    /// The stream has no such runs.
+    #[error("stripe 3 Run({0}, {1}): {2}")]
+    Run(usize, StreamKind, RunFault),
+    /// A text is no UTF-8.
+    #[error("stripe 4 NotUtf8({0}, {1})")]
+    NotUtf8(usize, StreamKind),
+    /// An index is not below the dictionary's size.
+    #[error("stripe 5 BadIndex({0})")]
+    BadIndex(usize),
+    /// A stream of bytes has another length than its LENGTHs say.
+    #[error("stripe 6 LengthSum({0}, {1})")]
+    LengthSum(usize, StreamKind),
+    /// Rows have no index, or the column has none.
+    #[error("stripe 7 NoIndex{0}")]
+    NoIndex(Spot),
+    /// There is no such group, or an index has another number of entries than there are groups, or an entry
+    /// another number of positions than its column has, or a position lies outside of its stream.
+    #[error("stripe 8 BadPosition{0}")]
+    BadPosition(Spot),
+    /// The footer is no message, or the index of a column is none.
+    #[error("stripe 9 Wire: {0}")]
+    Wire(WireFault),
+    /// There are more rows than a column may have cells (column 0), or more elements in the column's lists, or pairs in
+    /// its maps.
+    #[error("stripe 10 TooMany({0})")]
+    TooMany(usize),
+    /// Memory ran out.
+    #[error("stripe 11 OutOfMemory")]
+    OutOfMemory,
+    /// A number lies outside of its column's type.
+    #[error("stripe 12 OutOfRange({0})")]
+    OutOfRange(usize),
+    /// A cursor has refused before.
+    #[error("stripe 13 Failed")]
+    Failed,
+}
+
+/// The fault of a stream's runs.
+pub fn run_fault(column: usize, kind: StreamKind, cause: RunFault) -> StripeFault
+    // Where the cause isn't want of memory, it is told with the column and the stream.
+    ensures same { cause ≢ run.OutOfMemory → result ≡ fault.Run column kind cause }
+    // Want of memory is told as such.
+    ensures memory { cause ≡ run.OutOfMemory → result ≡ fault.OutOfMemory }
+    // Any other answer is the fault of the stream's runs, of a cause that isn't want of memory.
+    ensures fails { result ≢ fault.OutOfMemory → (result ≡ fault.Run column kind cause) × (cause ≢ run.OutOfMemory) }
+{
+    match cause {
+        RunFault::OutOfMemory => StripeFault::OutOfMemory,
+        cause => StripeFault::Run(column, kind, cause),
+    }
+}
+
+/// The fault of a stripe's footer.
+pub fn wire_fault(cause: WireFault) -> StripeFault
+    // Want of memory is told as such.
+    ensures memory { cause ≡ wire.OutOfMemory → result ≡ fault.OutOfMemory }
+    // Any other answer is the footer's own fault.
+    ensures either { (result ≡ fault.OutOfMemory) ⊎ ((result ≡ fault.Wire cause) × (cause ≢ wire.OutOfMemory)) }
+{
+    match cause {
+        WireFault::OutOfMemory => StripeFault::OutOfMemory,
+        cause => StripeFault::Wire(cause),
+    }
+}
+
+impl<T: Drop> From<AllocFailed<T>> for StripeFault {
+    ghost from_gives = { λ _ e. e ≡ fault.OutOfMemory };
+
+    fn from(_: AllocFailed<T>) -> StripeFault {
+        StripeFault::OutOfMemory
+    }
+}
+
+impl From<AllocError> for StripeFault {
+    ghost from_gives = { λ _ e. e ≡ fault.OutOfMemory };
+
+    fn from(_: AllocError) -> StripeFault {
+        StripeFault::OutOfMemory
+    }
+}

@@ -1,8 +1,0 @@
-use Rattle.orc_file.proofs.HonestLemmas.{whole_all, whole_some}
-use Rattle.orc_file.proofs.laws.of_rows.whole_laws.Goals as goal
-
-pub returns-clause-all : goal.returns-clause-all
-returns-clause-all c = whole_all
-
-pub returns-clause-less : goal.returns-clause-less
-returns-clause-less c = whole_some

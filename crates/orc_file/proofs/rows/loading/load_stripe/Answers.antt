@@ -1,5 +1,0 @@
-use Rattle.orc_file.proofs.RowLemmas.{stripe_short}
-use Rattle.orc_file.proofs.rows.loading.load_stripe.Goals as goal
-
-pub stripe_length-len-requires : goal.stripe_length-len-requires
-stripe_length-len-requires g c = rw c.as_slice.ensures (stripe_short c.args.tail.now.stripes c.args.number c.requires.there c.requires.most)

@@ -1,0 +1,4 @@
+pub mod StripeCapLemmas
+pub mod RowLemmas
+pub mod RowFronts
+pub mod HonestLemmas

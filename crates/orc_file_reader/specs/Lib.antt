@@ -1,0 +1,5 @@
+pub mod FileRows
+pub mod StripeCaps
+pub mod RowFaults
+pub mod Honest
+pub mod Loading

@@ -1,0 +1,27 @@
+-- How reading a file's rows is refused where the source hasn't failed: what can be said of it by the tail and the cap.
+use Rattle.std.specs.Prelude.{◌≡◌, ◌≢◌, ℕ, ◌<◌, ◌≤◌, List, length}
+use Rattle.orc_directory.specs.declared.fault.StripeFault.{StripeFault}
+use Rattle.orc_directory.specs.declared.fault.StripeFault.TheVariants as stripe
+use Rattle.orc_tail.specs.Stripes.{stripe_length, stripe_at}
+use Rattle.orc_file_reader.specs.FileRows.{IsNoStripe}
+use Rattle.orc_tail.specs.declared.tail.Tail.{Tail}
+use Rattle.orc_tail.specs.declared.fault.FileFault.{FileFault}
+use Rattle.orc_tail.specs.declared.fault.FileFault.TheVariants.{Limit, Stripe, OutOfMemory}
+
+-- a stripe that the tail names is longer than the cap
+abbrev pub HasLongStripe : ℕ → Tail → Type 0
+HasLongStripe cap tail = (n : ℕ) × (n < length tail.stripes) × (cap < stripe_length (stripe_at tail.stripes n))
+
+-- the tail names a stripe with this number, no longer than the cap, and some bytes of its length are no stripe by it
+abbrev pub MayBeNoStripe : ℕ → Tail → ℕ → StripeFault → Type 0
+MayBeNoStripe cap tail n why =
+    (n < length tail.stripes) × (stripe_length (stripe_at tail.stripes n) ≤ cap)
+    × ((bytes : List ℕ) × (length bytes ≡ stripe_length (stripe_at tail.stripes n))
+    × IsNoStripe tail.schema (stripe_at tail.stripes n) bytes why)
+
+-- A fault that reading the rows behind this tail ends with where the source hasn't failed: a stripe's, or want of memory.
+abbrev pub IsOfRows : ℕ → Tail → FileFault → Type 0
+IsOfRows cap tail Limit = HasLongStripe cap tail
+IsOfRows cap tail (Stripe number why) = (why ≢ stripe.OutOfMemory) × MayBeNoStripe cap tail number why
+IsOfRows cap tail OutOfMemory = Unit {0}
+IsOfRows cap tail _ = ⊥

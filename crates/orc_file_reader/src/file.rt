@@ -1,0 +1,128 @@
+//! An ORC file: a source of bytes whose tail has been read.
+ghost use Rattle.std.specs.Prelude.{◌≡◌, ◌≤◌, ◌⊎◌, IfOk, IfErr, IfSome, MatchResult};
+ghost use Rattle.std.proofs.Props.{props};
+ghost use Rattle.orc_io.specs.Leaves.{HandsBackSource};
+ghost use Rattle.orc_tail.specs.Stripes.{AllBefore, stripes_length, most_bytes};
+ghost use Rattle.orc_tail.specs.Tails.{IsTail, TailOpenFault, ReadFault, IsOfTail};
+ghost use Rattle.orc_tail.specs.Caps.{no_cap, IsCappedTail, CappedFault};
+ghost use Rattle.orc_tail.specs.Images.{IsWithinLimits};
+ghost use Rattle.orc_tail.specs.declared.tail.Tail.{Tail};
+ghost use Rattle.orc_tail.specs.declared.fault.FileFault.TheVariants.{SourceFailed, OutOfMemory};
+
+use orc_io::Source;
+use orc_tail::{FileFault, Tail, read_capped_tail};
+use orc_types::Schema;
+use std::alloc::Global;
+
+/// An ORC file: a source of bytes whose tail has been read.
+#[derive(Drop)]
+pub struct OrcFile<S: Source> {
+    pub(crate) source: S,
+    pub(crate) tail: Tail,
+    /// How many bytes are read at once: the tail's three parts, or a stripe's three, have no more together.
+    pub(crate) cap: u64,
+    ghost within: { AllBefore (S.size source) tail.stripes } by { Prim.hlevel props },
+    ghost bytes: { stripes_length tail.stripes ≤ most_bytes },
+}
+
+impl<S: Source> OrcFile<S> {
+    /// The file with these bytes. A refusal hands the source back.
+    ///
+    /// The tests come in this order, and the fault is the first one's that fails: both ends and the postscript, the
+    /// footer, the metadata, the limits and the stripes' places. `SourceFailed` and `OutOfMemory` may come instead.
+    pub fn open(alloc: Global, source: S) -> Result<OrcFile<S>, (FileFault, S)>
+        // If the file is opened and the source's bytes are known, then the opened file's tail is the tail of
+        // these bytes.
+        ensures found { IfOk result (λ file. IfSome (S.told source) (λ bytes. IsTail bytes file.tail)) }
+        // If the source's bytes are known and have a tail, then the file is opened with this tail, or the error
+        // is `OutOfMemory` or `SourceFailed`.
+        ensures only { IfSome (S.told source) (λ bytes. (tail : Tail) → IsTail bytes tail
+            → MatchResult result (λ file. file.tail ≡ tail) (λ e. (e.0 ≡ OutOfMemory) ⊎ (e.0 ≡ SourceFailed))) }
+        // If the file is opened, then its tail is within the limits, even if the source's bytes are unknown.
+        ensures limits { IfOk result (λ file. IsWithinLimits file.tail) }
+        // If the file is opened, then its cap is 2^64 - 1 bytes, the greatest cap.
+        ensures cap { IfOk result (λ file. file.cap ≡ no_cap) }
+
+        // If the source's bytes are known, then an error is `OutOfMemory`, `SourceFailed`, or the fault of the
+        // first test of a tail that the bytes fail.
+        ensures fault { IfErr result (λ e. ReadFault (S.told source) e.0 (λ bytes. TailOpenFault bytes e.0)) }
+        // An error is `SourceFailed`, or the source's count of failures is unchanged and the error is
+        // `OutOfMemory` or the fault of a test of a tail.
+        ensures unfailed { IfErr result (λ e. (e.0 ≡ SourceFailed)
+            ⊎ (IsOfTail e.0 × (S.failures e.1 ≡ S.failures source))) }
+        // The source, which an opened file keeps and an error returns, has its former length, and the same is
+        // known of its bytes. Its count of failures rises with `SourceFailed`, and stays the same after a
+        // success and after `OutOfMemory`.
+        ensures source { HandsBackSource S.told S.size S.failures SourceFailed (λ fault. fault ≡ OutOfMemory)
+            (λ file. file.source) source result }
+    {
+        OrcFile::open_capped(alloc, source, u64::MAX)
+    }
+
+    /// The file with these bytes, of which no more than the cap are read at once: for whoever reads files of
+    /// strangers. A refusal hands the source back.
+    ///
+    /// The tests and the refusals are those of `open`, and one more stands between the ends' and the footer's, before
+    /// footer and metadata are read: `Limit` where metadata, footer and postscript have together more bytes than the
+    /// cap says. On the file `load` and `rows` answer `Limit` for a stripe of more bytes.
+    pub fn open_capped(alloc: Global, source: S, cap: u64) -> Result<OrcFile<S>, (FileFault, S)>
+        // `source` has at most 2^64 - 1 bytes.
+        ensures sized { S.size source ≤ no_cap }
+        // If the file is opened and the source's bytes are known, then the opened file's tail is the tail of
+        // these bytes, whose metadata, footer and postscript have at most `cap` bytes together.
+        ensures found { IfOk result (λ file. IfSome (S.told source) (λ bytes. IsCappedTail cap bytes file.tail)) }
+        // If the source's bytes are known and have a tail, and their metadata, footer and postscript have at
+        // most `cap` bytes together, then the file is opened with this tail, or the error is `OutOfMemory` or
+        // `SourceFailed`.
+        ensures only { IfSome (S.told source) (λ bytes. (tail : Tail) → IsCappedTail cap bytes tail
+            → MatchResult result (λ file. file.tail ≡ tail) (λ e. (e.0 ≡ OutOfMemory) ⊎ (e.0 ≡ SourceFailed))) }
+        // If the file is opened, then its tail is within the limits, even if the source's bytes are unknown.
+        ensures limits { IfOk result (λ file. IsWithinLimits file.tail) }
+        // If the file is opened, then its cap is `cap`.
+        ensures cap { IfOk result (λ file. file.cap ≡ cap) }
+
+        // If the source's bytes are known, then an error is `OutOfMemory`, `SourceFailed`, or the fault of the
+        // first test that the bytes fail. The tests are those of both ends and the postscript, `cap` (`Limit`),
+        // and the other tests of a tail, in this order.
+        ensures fault { IfErr result (λ e. ReadFault (S.told source) e.0 (λ bytes. CappedFault cap bytes e.0)) }
+        // An error is `SourceFailed`, or the source's count of failures is unchanged and the error is
+        // `OutOfMemory` or the fault of a test of a tail.
+        ensures unfailed { IfErr result (λ e. (e.0 ≡ SourceFailed)
+            ⊎ (IsOfTail e.0 × (S.failures e.1 ≡ S.failures source))) }
+        // The source, which an opened file keeps and an error returns, has its former length, and the same is
+        // known of its bytes. Its count of failures rises with `SourceFailed`, and stays the same after a
+        // success and after `OutOfMemory`.
+        ensures source { HandsBackSource S.told S.size S.failures SourceFailed (λ fault. fault ≡ OutOfMemory)
+            (λ file. file.source) source result }
+    {
+        let mut source = source;
+        match read_capped_tail(alloc, &mut source, cap) {
+            Ok(tail) => Ok(OrcFile { source, tail, cap }),
+            Err(fault) => Err((fault, source)),
+        }
+    }
+
+    /// What the file says of itself.
+    pub fn tail(&self) -> &Tail
+        // Returns the file's tail.
+        ensures { result.now ≡ self.now.tail }
+    {
+        &self.tail
+    }
+
+    /// The columns.
+    pub fn schema(&self) -> &Schema
+        // Returns the schema of the file's tail.
+        ensures { result.now ≡ self.now.tail.schema }
+    {
+        &self.tail.schema
+    }
+
+    /// The tail, and the source back.
+    pub fn into_parts(self) -> (Tail, S)
+        // Returns the file's tail and its source.
+        ensures { (result.0 ≡ self.tail) × (result.1 ≡ self.source) }
+    {
+        (self.tail, self.source)
+    }
+}

@@ -1,0 +1,9 @@
+pub mod CountLemmas
+pub mod CountSteps
+pub mod StatTests
+pub mod Spread
+pub mod WriterLemmas
+pub mod PushLemmas
+pub mod BatchSteps
+pub mod TailLimits
+pub mod LimitLemmas

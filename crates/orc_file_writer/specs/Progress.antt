@@ -1,0 +1,18 @@
+-- What a writer has done so far, by its fields.
+use Rattle.std.specs.Prelude.{ℕ, List, Option}
+use Rattle.orc_row_batch.specs.Batch.{kept_rows}
+use Rattle.orc_io.specs.declared.sink.Sink.{Ghosts}
+use Rattle.orc_file_writer.specs.Writing.{Progress}
+use Rattle.orc_file_writer.specs.declared.writer.Writer.{Writer}
+
+-- of a writer to an output that tells so much
+abbrev pub progress : {W : Type 0} {ghosts : Ghosts W} → (W → Option (List ℕ)) → Writer W ghosts → Progress
+progress told w = record {
+  options = w.options;
+  schema = w.schema;
+  told = told w.out;
+  written = w.written;
+  infos = w.infos.items;
+  stats = w.stats.items;
+  kept = kept_rows w.schema w.batch;
+}

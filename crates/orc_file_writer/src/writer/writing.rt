@@ -1,0 +1,541 @@
+//! Rows to a file.
+ghost use Rattle.std.specs.Prelude.{◌≡◌, ◌+◌, ◌<◌, ◌≤◌, ◌⊎◌, ◌↔◌, ◌++◌, ◌∷◌, [], ℕ, List, Option, length, get_or, map, true, false, IfOk, IfErr, OnOk, OnErr, IsErrOf, MatchResult};
+ghost use Rattle.orc_rle.specs.declared.sign.Rle.{Rle};
+ghost use Rattle.orc_wire.specs.declared.stripe_info.StripeInfo.{StripeInfo};
+ghost use Rattle.orc_values.specs.Shapes.{width};
+ghost use Rattle.orc_types.specs.Schemas.{IsSchema};
+ghost use Rattle.orc_values.specs.Cells.{Cell, cells_of};
+ghost use Rattle.orc_values.specs.Columns as columns;
+ghost use Rattle.orc_values.specs.Fits as fitting;
+ghost use Rattle.orc_values.specs.Views.{view};
+ghost use Rattle.orc_row_batch.specs.Batch.{kept_rows};
+ghost use Rattle.orc_column_reader.specs.Stripe.{IsStripe};
+ghost use Rattle.orc_stripe_writer.specs.WrittenStripe.{IsWrittenStripe, HaveStats};
+ghost use Rattle.orc_io.specs.Devices.{appended};
+ghost use Rattle.orc_io.specs.Leaves.{LeavesSink};
+ghost use Rattle.orc_tail.specs.Stripes.{stripe_length, stripes_length, stripes_rows, most_stripes, most_rows, most_bytes};
+ghost use Rattle.orc_file_writer.specs.Counts.{are_laid_with_few_rows, are_few, are_all_stats, with_row, PassesLimit};
+ghost use Rattle.orc_file_writer.specs.Writing.{HasTaken, HasKept, HasPushed, HasFilled, IsCutOff, WroteWholeFile, PassesBytes};
+ghost use Rattle.orc_file_writer.specs.Pushing.{AddsRow, TakesRow};
+ghost use Rattle.orc_file_writer.specs.Progress.{progress};
+ghost use Rattle.orc_tail.specs.declared.fault.FileFault.TheVariants as fault;
+
+use crate::writer::Writer;
+use crate::writer::counting::{count_row, no_cells, reset};
+use crate::writer::file_end::{Stripes, end_file};
+use orc_io::{Sink, write_all};
+use orc_row_batch::{Options, RowBatch};
+use orc_stats::Stat;
+use orc_stripe_writer::{StripeOut, write_batch};
+use orc_tail::{FileFault, MOST_BYTES, MOST_ROWS, MOST_STRIPES, Tail};
+use orc_types::{Schema, fits};
+use orc_values::Row;
+use orc_wire::{Items, StripeInfo};
+use std::alloc::Global;
+use std::mem::swap;
+
+impl<W: Sink> Writer<W> {
+    /// A writer of a file of this schema, without rows yet. It has written `ORC`.
+    ///
+    /// Refusals: `WriteFailed` and `OutOfMemory`. They hand the output back.
+    pub fn new(
+        alloc: Global,
+        schema: Schema,
+        options: Options,
+        out: W,
+    ) -> Result<Writer<W>, (FileFault, W)>
+        // If the writer is made, then no row has been pushed to it, and its output has got exactly `ORC` if the
+        // output's bytes are known.
+        ensures pushed { IfOk result (λ w. HasPushed (progress W.told w) (W.told out) []) }
+        // If the writer is made, then it has `schema` and `options`, and has not failed.
+        ensures made { IfOk result (λ w. (w.schema ≡ schema) × (w.options ≡ options) × (w.failed ≡ false)) }
+        // If the writer is made and the output's bytes are known, then the writer counts as many bytes as the
+        // output has got.
+        ensures taken { IfOk result (λ w. HasTaken (W.told out) (W.told w.out) w.written) }
+
+        // An error is `WriteFailed` or `OutOfMemory`.
+        ensures refused { IfErr result (λ e. (e.0 ≡ fault.WriteFailed) ⊎ (e.0 ≡ fault.OutOfMemory)) }
+        // If the call fails and the output's bytes are known, then the output has got a prefix of a file
+        // without rows.
+        ensures cut { IfErr result (λ e. IsCutOff options schema (W.told out) (W.told e.1) []) }
+        // The output's count of failures rises with `WriteFailed`, and stays the same after a success and after
+        // `OutOfMemory`.
+        ensures write_failed { IfErr result (λ e. e.0 ≡ fault.WriteFailed → W.failures out < W.failures e.1) }
+        ensures memory { IfErr result (λ e. e.0 ≡ fault.OutOfMemory → W.failures e.1 ≡ W.failures out) }
+        ensures no_failure { IfOk result (λ w. W.failures w.out ≡ W.failures out) }
+    {
+        schema.limit_laws();
+        let mut out = out;
+        let Ok(counts) = no_cells(alloc, schema.width()) else {
+            return Err((FileFault::OutOfMemory, out));
+        };
+        let Ok(sums) = no_cells(alloc, schema.width()) else {
+            return Err((FileFault::OutOfMemory, out));
+        };
+        let Ok(batch) = RowBatch::new(alloc, schema.width()) else {
+            return Err((FileFault::OutOfMemory, out));
+        };
+        match write_all(&mut out, b"ORC") {
+            Ok(()) => Ok(Writer {
+                alloc,
+                schema,
+                options,
+                out,
+                infos: Vec::new(alloc),
+                stats: Vec::new(alloc),
+                written: 3,
+                total: 0,
+                batch,
+                counts,
+                sums,
+                spare: None,
+                failed: false,
+            }),
+            Err(_) => Err((FileFault::WriteFailed, out)),
+        }
+    }
+
+    /// The kept rows as a stripe at its place in the file.
+    fn stripe_of(&self) -> Result<StripeOut, FileFault>
+        requires open { self.now.failed ≡ false }
+        ensures stripe { IfOk result
+            (λ out. IsStripe self.now.schema out.info out.bytes.items (kept_rows self.now.schema self.now.batch)) }
+        ensures text { IfOk result
+            (λ out. IsWrittenStripe self.now.options.rle self.now.options.stride self.now.schema
+            (kept_rows self.now.schema self.now.batch) (record out.info { offset = 0 }) out.bytes.items) }
+        ensures stats { IfOk result
+            (λ out. HaveStats self.now.schema (kept_rows self.now.schema self.now.batch) (width self.now.schema) out.stats.items) }
+        ensures place { IfOk result (λ out. out.info.offset ≡ self.now.written) }
+        ensures few { IfOk result (λ out. stripes_length self.now.infos.items + length out.bytes.items ≤ most_bytes) }
+        ensures schema { IsSchema self.now.schema }
+        ensures limit { IsErrOf result fault.Limit
+            → PassesBytes self.now.options self.now.schema self.now.infos.items
+            (kept_rows self.now.schema self.now.batch) }
+        ensures refused { IfErr result (λ e. (e ≡ fault.Limit) ⊎ (e ≡ fault.OutOfMemory)) }
+    {
+        self.schema.limit_laws();
+        let Ok(out) = write_batch(self.alloc, &self.schema, &self.options, &self.batch) else {
+            return Err(FileFault::OutOfMemory);
+        };
+        if out.bytes.len() as u64 > MOST_BYTES - (self.written - 3) {
+            return Err(FileFault::Limit);
+        }
+        Ok(StripeOut {
+            bytes: out.bytes,
+            info: StripeInfo {
+                offset: self.written,
+                ..out.info
+            },
+            stats: out.stats,
+        })
+    }
+
+    /// Writes a stripe of the kept rows. After a refusal the writer has failed.
+    fn send(&mut self, stripe: StripeOut) -> Result<(), FileFault>
+        requires open { self.old.failed ≡ false }
+        requires begun { 0 < length (kept_rows self.old.schema self.old.batch) }
+        requires stripe { IsStripe self.old.schema stripe.info stripe.bytes.items
+            (kept_rows self.old.schema self.old.batch) }
+        requires text { IsWrittenStripe self.old.options.rle self.old.options.stride self.old.schema
+            (kept_rows self.old.schema self.old.batch) (record stripe.info { offset = 0 }) stripe.bytes.items }
+        requires stats { HaveStats self.old.schema (kept_rows self.old.schema self.old.batch) (width self.old.schema)
+            stripe.stats.items }
+        requires place { stripe.info.offset ≡ self.old.written }
+        requires few { stripes_length self.old.infos.items + length stripe.bytes.items ≤ most_bytes }
+        requires schema { IsSchema self.old.schema }
+        ensures kept { (first : Option (List ℕ)) (rows : List Cell)
+            → length (kept_rows self.old.schema self.old.batch) ≡ self.old.options.stripe_rows
+            → HasKept (progress W.told self.old) first rows
+            → OnOk result (HasKept (record (progress W.told self.new) { kept = [] }) first rows) }
+        ensures last { (first : Option (List ℕ)) (rows : List Cell)
+            → length (kept_rows self.old.schema self.old.batch) ≤ self.old.options.stripe_rows
+            → HasKept (progress W.told self.old) first rows
+            → OnOk result (HasFilled (progress W.told self.new) first rows) }
+        ensures cut { (first : Option (List ℕ)) (rows : List Cell)
+            → length (kept_rows self.old.schema self.old.batch) ≤ self.old.options.stripe_rows
+            → HasKept (progress W.told self.old) first rows
+            → OnErr result (IsCutOff self.old.options self.old.schema first (W.told self.new.out) rows) }
+        ensures taken { (first : Option (List ℕ)) → HasTaken first (W.told self.old.out) self.old.written
+            → HasTaken first (W.told self.new.out) self.new.written }
+        ensures empty { OnOk result (kept_rows self.new.schema self.new.batch ≡ []) }
+        ensures same { (self.new.schema ≡ self.old.schema) × (self.new.options ≡ self.old.options) }
+        ensures ok { OnOk result (self.new.failed ≡ false) }
+        ensures failed { OnErr result (self.new.failed ≡ true) }
+        ensures refused { IfErr result (λ e. (e ≡ fault.WriteFailed) ⊎ (e ≡ fault.OutOfMemory)) }
+        ensures out { LeavesSink W.failures fault.WriteFailed (λ e. e ≡ fault.OutOfMemory)
+            self.old.out self.new.out result }
+        ensures unfailed { IfErr result
+            (λ e. (e ≡ fault.WriteFailed) ⊎ (W.failures self.new.out ≡ W.failures self.old.out)) }
+    {
+        self.failed = true;
+        match write_all(&mut self.out, &stripe.bytes) {
+            Ok(()) => self.written += stripe.bytes.len() as u64,
+            Err(taken) => {
+                self.written += taken as u64;
+                return Err(FileFault::WriteFailed);
+            }
+        }
+        let Ok(()) = self.stats.push(Items::from_vec(stripe.stats)) else {
+            return Err(FileFault::OutOfMemory);
+        };
+        let Ok(()) = self.infos.push(stripe.info) else {
+            return Err(FileFault::OutOfMemory);
+        };
+        self.batch.clear();
+        reset(&mut self.counts);
+        self.failed = false;
+        Ok(())
+    }
+
+    /// Writes the kept rows, of which there is one at least, as a stripe. After a refusal the writer has
+    /// failed.
+    fn close(&mut self) -> Result<(), FileFault>
+        requires open { self.old.failed ≡ false }
+        requires begun { 0 < length (kept_rows self.old.schema self.old.batch) }
+        ensures kept { (first : Option (List ℕ)) (rows : List Cell)
+            → length (kept_rows self.old.schema self.old.batch) ≡ self.old.options.stripe_rows
+            → HasKept (progress W.told self.old) first rows
+            → OnOk result (HasKept (record (progress W.told self.new) { kept = [] }) first rows) }
+        ensures last { (first : Option (List ℕ)) (rows : List Cell)
+            → length (kept_rows self.old.schema self.old.batch) ≤ self.old.options.stripe_rows
+            → HasKept (progress W.told self.old) first rows
+            → OnOk result (HasFilled (progress W.told self.new) first rows) }
+        ensures cut { (first : Option (List ℕ)) (rows : List Cell)
+            → length (kept_rows self.old.schema self.old.batch) ≤ self.old.options.stripe_rows
+            → HasKept (progress W.told self.old) first rows
+            → OnErr result (IsCutOff self.old.options self.old.schema first (W.told self.new.out) rows) }
+        ensures taken { (first : Option (List ℕ)) → HasTaken first (W.told self.old.out) self.old.written
+            → HasTaken first (W.told self.new.out) self.new.written }
+        ensures empty { OnOk result (kept_rows self.new.schema self.new.batch ≡ []) }
+        ensures same { (self.new.schema ≡ self.old.schema) × (self.new.options ≡ self.old.options) }
+        ensures ok { OnOk result (self.new.failed ≡ false) }
+        ensures failed { OnErr result (self.new.failed ≡ true) }
+        ensures limit { IsErrOf result fault.Limit
+            → PassesBytes self.old.options self.old.schema self.old.infos.items
+            (kept_rows self.old.schema self.old.batch) }
+        ensures refused { IfErr result (λ e. (e ≡ fault.WriteFailed) ⊎ ((e ≡ fault.Limit) ⊎ (e ≡ fault.OutOfMemory))) }
+        ensures out { LeavesSink W.failures fault.WriteFailed (λ e. e ≡ fault.OutOfMemory)
+            self.old.out self.new.out result }
+        ensures unfailed { IfErr result
+            (λ e. (e ≡ fault.WriteFailed) ⊎ (W.failures self.new.out ≡ W.failures self.old.out)) }
+    {
+        match self.stripe_of() {
+            Ok(stripe) => self.send(stripe),
+            Err(fault) => {
+                self.failed = true;
+                Err(fault)
+            }
+        }
+    }
+
+    /// Whether a row may be pushed. Then `sums` has the counts with it.
+    fn admit(&mut self, row: &Row<'_>) -> Result<(), FileFault>
+        ensures open { OnOk result (self.old.failed ≡ false) }
+        ensures schema { IsSchema self.old.schema }
+        ensures fits { OnOk result (fitting.fits (view row.now) self.old.schema ≡ true) }
+        ensures stripes { OnOk result (length self.old.infos.items < most_stripes) }
+        ensures rows { OnOk result (self.old.total < most_rows) }
+        ensures counts { OnOk result (self.new.sums.items
+            ≡ with_row self.old.schema 0 (view row.now) self.old.counts.items) }
+        ensures few { OnOk result (are_few self.new.sums.items ≡ true) }
+        ensures failed { IsErrOf result fault.Failed ↔ (self.old.failed ≡ true) }
+        ensures shape { self.old.failed ≡ false → (IsErrOf result fault.RowShape
+            ↔ (fitting.fits (view row.now) self.old.schema ≡ false)) }
+        ensures limit { self.old.failed ≡ false → fitting.fits (view row.now) self.old.schema ≡ true
+            → (IsErrOf result fault.Limit
+            ↔ PassesLimit self.old.schema self.old.infos.items self.old.total self.old.counts.items
+            (view row.now)) }
+        ensures refused { IfErr result (λ e. (e ≡ fault.Failed) ⊎ ((e ≡ fault.RowShape) ⊎ (e ≡ fault.Limit))) }
+        ensures same { (self.new.schema ≡ self.old.schema) × (self.new.options ≡ self.old.options) }
+        ensures stays { (self.new.out ≡ self.old.out) × (self.new.written ≡ self.old.written)
+            × (self.new.infos ≡ self.old.infos)
+            × (self.new.stats ≡ self.old.stats) × (self.new.batch ≡ self.old.batch)
+            × (self.new.counts ≡ self.old.counts)
+            × (self.new.total ≡ self.old.total) × (self.new.failed ≡ self.old.failed) }
+    {
+        self.schema.limit_laws();
+        if self.failed {
+            return Err(FileFault::Failed);
+        }
+        if !fits(&self.schema, row) {
+            return Err(FileFault::RowShape);
+        }
+        if self.infos.len() >= MOST_STRIPES || self.total >= MOST_ROWS {
+            return Err(FileFault::Limit);
+        }
+        if !count_row(&self.schema, row, &self.counts, &mut self.sums) {
+            return Err(FileFault::Limit);
+        }
+        Ok(())
+    }
+
+    /// Keeps a row that was admitted. After a refusal the writer has failed.
+    fn keep(&mut self, row: &Row<'_>) -> Result<(), FileFault>
+        requires open { self.old.failed ≡ false }
+        requires fits { fitting.fits (view row.now) self.old.schema ≡ true }
+        requires stripes { length self.old.infos.items < most_stripes }
+        requires rows { self.old.total < most_rows }
+        requires counts { self.old.sums.items ≡ with_row self.old.schema 0 (view row.now) self.old.counts.items }
+        requires few { are_few self.old.sums.items ≡ true }
+        ensures kept { OnOk result (kept_rows self.new.schema self.new.batch
+            ≡ kept_rows self.old.schema self.old.batch ++ view row.now ∷ []) }
+        ensures stands { (self.new.out ≡ self.old.out) × (self.new.written ≡ self.old.written)
+            × (self.new.infos ≡ self.old.infos)
+            × (self.new.stats ≡ self.old.stats) }
+        ensures ok { OnOk result (self.new.failed ≡ false) }
+        ensures failed { OnErr result (self.new.failed ≡ true) }
+        ensures refused { IfErr result (λ e. e ≡ fault.OutOfMemory) }
+        ensures same { (self.new.schema ≡ self.old.schema) × (self.new.options ≡ self.old.options) }
+    {
+        let kept = self.batch.len() as u64;
+        let Ok(()) = self.batch.push(self.schema.tree(), row) else {
+            // a part of the row may stand in the batch
+            self.batch.clear();
+            reset(&mut self.counts);
+            self.total -= kept;
+            self.failed = true;
+            return Err(FileFault::OutOfMemory);
+        };
+        self.total += 1;
+        swap(&mut self.counts, &mut self.sums);
+        Ok(())
+    }
+
+    /// Adds a row that was admitted, and writes the stripe that it fills. After a refusal the writer has failed.
+    fn add(&mut self, row: &Row<'_>) -> Result<(), FileFault>
+        requires open { self.old.failed ≡ false }
+        requires schema { IsSchema self.old.schema }
+        requires fits { fitting.fits (view row.now) self.old.schema ≡ true }
+        requires stripes { length self.old.infos.items < most_stripes }
+        requires rows { self.old.total < most_rows }
+        requires counts { self.old.sums.items ≡ with_row self.old.schema 0 (view row.now) self.old.counts.items }
+        requires few { are_few self.old.sums.items ≡ true }
+        ensures pushed { (first : Option (List ℕ)) (rows : List Cell)
+            → HasPushed (progress W.told self.old) first rows
+            → OnOk result (HasPushed (progress W.told self.new) first (rows ++ view row.now ∷ [])) }
+        ensures taken { (first : Option (List ℕ)) → HasTaken first (W.told self.old.out) self.old.written
+            → HasTaken first (W.told self.new.out) self.new.written }
+        ensures same { (self.new.schema ≡ self.old.schema) × (self.new.options ≡ self.old.options) }
+        ensures cut { (first : Option (List ℕ)) (rows : List Cell)
+            → HasPushed (progress W.told self.old) first rows
+            → OnErr result (IsCutOff self.old.options self.old.schema first (W.told self.new.out)
+            (rows ++ view row.now ∷ [])) }
+        ensures long { IsErrOf result fault.Limit
+            → PassesBytes self.old.options self.old.schema self.old.infos.items
+            (kept_rows self.old.schema self.old.batch
+            ++ view row.now ∷ []) }
+        ensures full { IsErrOf result fault.Limit → self.old.options.stripe_rows ≤ length
+            (kept_rows self.old.schema self.old.batch) + 1 }
+        ensures refused { IfErr result (λ e. (e ≡ fault.Limit) ⊎ ((e ≡ fault.WriteFailed) ⊎ (e ≡ fault.OutOfMemory))) }
+        ensures ok { OnOk result (self.new.failed ≡ false) }
+        ensures failed { OnErr result (self.new.failed ≡ true) }
+        ensures out { LeavesSink W.failures fault.WriteFailed (λ e. e ≡ fault.OutOfMemory)
+            self.old.out self.new.out result }
+        ensures unfailed { IfErr result
+            (λ e. (e ≡ fault.WriteFailed) ⊎ (W.failures self.new.out ≡ W.failures self.old.out)) }
+    {
+        self.keep(row)?;
+        if self.batch.len() >= self.options.stripe_rows() as usize {
+            return self.close();
+        }
+        Ok(())
+    }
+
+    /// Adds a row as `push` does, and takes it: `spare_row` hands it out again, for its room.
+    ///
+    /// Refusals: `Failed`, where an earlier call failed; `RowShape` where the row doesn't fit the schema, and
+    /// `Limit` where a limit of stripes, of rows or of a column's cells would be passed, which leave the
+    /// writer as it was; `WriteFailed`, `OutOfMemory`, and `Limit` where the file's stripes would have too
+    /// many bytes, after which the writer has failed: what was written then is the front of a file of some
+    /// of the rows pushed, this one among them.
+    pub fn push_owned(&mut self, row: Row<'static>) -> Result<(), FileFault>
+        // If the push succeeds, then the rows pushed are those pushed before, followed by `row`. The output has
+        // got exactly the full stripes of these rows if its bytes are known, and the writer keeps the other
+        // rows.
+        ensures pushed { AddsRow (progress W.told self.old) (progress W.told self.new) (view row.entry) result }
+        // The writer keeps its schema and its options. An error is `Failed`, `RowShape`, `Limit`, `WriteFailed`
+        // or `OutOfMemory`. `Failed` comes if and only if an earlier call failed. If none failed, `RowShape`
+        // comes if and only if `row` doesn't fit the schema. If none failed, `row` fits, and with `row` a limit
+        // of stripes, of rows or of a column's cells in a stripe would be passed, the error is `Limit` and the
+        // writer has not failed. By the writer's counts such a limit would be passed if and only if it would by
+        // the rows pushed. `Limit` without the writer having failed comes only if such a limit would be passed.
+        // `Limit` after which the writer has failed comes only if `row` fills the open stripe and with this
+        // stripe the file's stripes would have more than 2^40 bytes. The writer has failed after `WriteFailed`,
+        // after `OutOfMemory` and if an earlier call failed; it has not failed after a success or `RowShape`.
+        // After an error by which the writer did not fail, its output, stripes, statistics, rows and counts are
+        // unchanged. If the writer fails by this push and the output's bytes are known, the output has got a
+        // prefix of a file of the first n of the rows pushed, `row` included, for some n. If the writer counted
+        // as many bytes as the output had got, it still does. The output's count of failures rises with
+        // `WriteFailed`, and stays the same otherwise.
+        ensures takes { TakesRow W.told W.failures self.old self.new (view row.entry) result }
+    {
+        let pushed = self.push(&row);
+        self.spare = row;
+        pushed
+    }
+
+    /// Adds a row. The writer keeps what the columns say of it, so the row itself stays the caller's. With the last row of
+    /// a stripe the stripe is written.
+    ///
+    /// Refusals: `Failed`, where an earlier call failed; `RowShape` where the row doesn't fit the schema, and
+    /// `Limit` where a limit of stripes, of rows or of a column's cells would be passed, which leave the
+    /// writer as it was; `WriteFailed`, `OutOfMemory`, and `Limit` where the file's stripes would have too
+    /// many bytes, after which the writer has failed: what was written then is the front of a file of some
+    /// of the rows pushed, this one among them.
+    pub fn push(&mut self, row: &Row<'_>) -> Result<(), FileFault>
+        // If the push succeeds, then the rows pushed are those pushed before, followed by `row`. The output has
+        // got exactly the full stripes of these rows if its bytes are known, and the writer keeps the other
+        // rows.
+        ensures pushed { AddsRow (progress W.told self.old) (progress W.told self.new) (view row.now) result }
+        // The writer keeps its schema and its options. An error is `Failed`, `RowShape`, `Limit`, `WriteFailed`
+        // or `OutOfMemory`. `Failed` comes if and only if an earlier call failed. If none failed, `RowShape`
+        // comes if and only if `row` doesn't fit the schema. If none failed, `row` fits, and with `row` a limit
+        // of stripes, of rows or of a column's cells in a stripe would be passed, the error is `Limit` and the
+        // writer has not failed. By the writer's counts such a limit would be passed if and only if it would by
+        // the rows pushed. `Limit` without the writer having failed comes only if such a limit would be passed.
+        // `Limit` after which the writer has failed comes only if `row` fills the open stripe and with this
+        // stripe the file's stripes would have more than 2^40 bytes. The writer has failed after `WriteFailed`,
+        // after `OutOfMemory` and if an earlier call failed; it has not failed after a success or `RowShape`.
+        // After an error by which the writer did not fail, its output, stripes, statistics, rows and counts are
+        // unchanged. If the writer fails by this push and the output's bytes are known, the output has got a
+        // prefix of a file of the first n of the rows pushed, `row` included, for some n. If the writer counted
+        // as many bytes as the output had got, it still does. The output's count of failures rises with
+        // `WriteFailed`, and stays the same otherwise.
+        ensures takes { TakesRow W.told W.failures self.old self.new (view row.now) result }
+    {
+        self.admit(row)?;
+        self.add(row)
+    }
+
+    /// The row that was given away last, for its room alone, or null where there was none since the last call: whatever
+    /// it says is no longer needed.
+    pub fn spare_row(&mut self) -> Row<'static>
+        // What the writer has written, kept and counted is unchanged: its output, its stripes and their
+        // statistics, the rows of the open stripe, the counts of bytes, rows and cells, and whether it has
+        // failed.
+        ensures progress { progress W.told self.new ≡ progress W.told self.old }
+        ensures stays { (self.new.out ≡ self.old.out) × (self.new.written ≡ self.old.written)
+            × (self.new.infos ≡ self.old.infos)
+            × (self.new.stats ≡ self.old.stats) × (self.new.batch ≡ self.old.batch)
+            × (self.new.counts ≡ self.old.counts)
+            × (self.new.total ≡ self.old.total) × (self.new.failed ≡ self.old.failed) }
+        // The writer keeps its schema and its options.
+        ensures same { (self.new.schema ≡ self.old.schema) × (self.new.options ≡ self.old.options) }
+    {
+        self.spare.take()
+    }
+
+    /// The schema of its rows.
+    pub fn schema(&self) -> &Schema
+        // Returns the writer's schema.
+        ensures { result.now ≡ self.now.schema }
+    {
+        &self.schema
+    }
+
+    /// The output as it stands. The rows that are kept aren't written, nor is a tail.
+    pub fn into_out(self) -> W
+        // Returns the writer's output as it is.
+        ensures { result ≡ self.out }
+    {
+        self.out
+    }
+
+    /// Writes what is kept as the file's last stripe, where a row is.
+    fn close_rest(&mut self) -> Result<(), FileFault>
+        requires open { self.old.failed ≡ false }
+        ensures last { (first : Option (List ℕ)) (rows : List Cell)
+            → HasPushed (progress W.told self.old) first rows
+            → OnOk result (HasFilled (progress W.told self.new) first rows) }
+        ensures cut { (first : Option (List ℕ)) (rows : List Cell)
+            → HasPushed (progress W.told self.old) first rows
+            → OnErr result (IsCutOff self.old.options self.old.schema first (W.told self.new.out) rows) }
+        ensures empty { OnOk result (kept_rows self.new.schema self.new.batch ≡ []) }
+        ensures ok { OnOk result (self.new.failed ≡ false) }
+        ensures same { (self.new.schema ≡ self.old.schema) × (self.new.options ≡ self.old.options) }
+        ensures limit { IsErrOf result fault.Limit
+            → PassesBytes self.old.options self.old.schema self.old.infos.items
+            (kept_rows self.old.schema self.old.batch) }
+        ensures begun { OnErr result (0 < length (kept_rows self.old.schema self.old.batch)) }
+        ensures refused { IfErr result (λ e. (e ≡ fault.WriteFailed) ⊎ ((e ≡ fault.Limit) ⊎ (e ≡ fault.OutOfMemory))) }
+        ensures out { LeavesSink W.failures fault.WriteFailed (λ e. e ≡ fault.OutOfMemory)
+            self.old.out self.new.out result }
+        ensures unfailed { IfErr result
+            (λ e. (e ≡ fault.WriteFailed) ⊎ (W.failures self.new.out ≡ W.failures self.old.out)) }
+    {
+        if self.batch.len() == 0 {
+            return Ok(());
+        }
+        self.close()
+    }
+
+    /// Writes the last stripe, where a row is kept, and the tail. The output comes back with the tail, or
+    /// with a refusal.
+    ///
+    /// Refusals: `Failed`, where an earlier call failed; `WriteFailed`, `OutOfMemory`, and `Limit` where the
+    /// file's stripes would have too many bytes.
+    pub fn finish(self) -> Result<(Tail, W), (FileFault, W)>
+        // If the call succeeds and the output's bytes are known, then the output has got the file that is
+        // written of the rows pushed, and this file's tail is returned. The file has fewer than 2^64 bytes.
+        ensures whole { (first : Option (List ℕ)) (rows : List Cell)
+            → HasPushed (progress W.told self) first rows
+            → IfOk result (λ done. WroteWholeFile self.options self.schema done.0 first (W.told done.1) rows) }
+
+        // The error is `Failed` if and only if an earlier call failed, and with it the output is returned
+        // unchanged.
+        ensures failed { IfErr result (λ e. e.0 ≡ fault.Failed → self.failed ≡ true) }
+        ensures stands { self.failed ≡ true → MatchResult result (λ _. ⊥)
+            (λ e. (e.0 ≡ fault.Failed) × (e.1 ≡ self.out)) }
+        // If the error is `Limit`, then the open stripe has a row, and with this stripe the file's stripes
+        // would have more than 2^40 bytes.
+        ensures long { IfErr result (λ e. e.0 ≡ fault.Limit
+            → PassesBytes self.options self.schema self.infos.items (kept_rows self.schema self.batch)) }
+        ensures begun { IfErr result (λ e. e.0 ≡ fault.Limit → 0 < length (kept_rows self.schema self.batch)) }
+        // An error is `Failed`, `Limit`, `WriteFailed` or `OutOfMemory`.
+        ensures refused { IfErr result (λ e. (e.0 ≡ fault.Failed)
+            ⊎ ((e.0 ≡ fault.Limit) ⊎ ((e.0 ≡ fault.WriteFailed) ⊎ (e.0 ≡ fault.OutOfMemory)))) }
+        // If the call fails, no earlier call failed and the output's bytes are known, then the output has got a
+        // prefix of a file of the first n rows pushed, for some n.
+        ensures cut { (first : Option (List ℕ)) (rows : List Cell)
+            → HasPushed (progress W.told self) first rows
+            → self.failed ≡ false
+            → IfErr result (λ e. IsCutOff self.options self.schema first (W.told e.1) rows) }
+        // The output's count of failures rises with `WriteFailed`, and stays the same after a success and after
+        // `OutOfMemory`.
+        ensures write_failed { IfErr result (λ e. e.0 ≡ fault.WriteFailed → W.failures self.out < W.failures e.1) }
+        ensures memory { IfErr result (λ e. e.0 ≡ fault.OutOfMemory → W.failures e.1 ≡ W.failures self.out) }
+        ensures no_failure { IfOk result (λ done. W.failures done.1 ≡ W.failures self.out) }
+        // If the call fails with any error but `WriteFailed`, then the output's count of failures is unchanged.
+        ensures unfailed { IfErr result
+            (λ e. (e.0 ≡ fault.WriteFailed) ⊎ (W.failures e.1 ≡ W.failures self.out)) }
+    {
+        let mut writer = self;
+        if writer.failed {
+            return Err((FileFault::Failed, writer.out));
+        }
+        match writer.close_rest() {
+            Ok(()) => {}
+            Err(fault) => return Err((fault, writer.out)),
+        }
+        let Writer {
+            alloc,
+            schema,
+            options,
+            out,
+            infos,
+            stats,
+            total,
+            ..
+        } = writer;
+        let mut out = out;
+        let stripes = Stripes {
+            infos,
+            stats,
+            rows: total,
+        };
+        match end_file(alloc, options, schema, stripes, &mut out) {
+            Ok(tail) => Ok((tail, out)),
+            Err(fault) => Err((fault, out)),
+        }
+    }
+}

@@ -1,0 +1,5 @@
+pub mod Escapes
+pub mod Growth
+pub mod Outputs
+pub mod Layouts
+pub mod Prints

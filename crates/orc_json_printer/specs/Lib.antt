@@ -1,0 +1,4 @@
+pub mod Growth
+pub mod Outputs
+pub mod Layouts
+pub mod Texts

@@ -1,0 +1,7 @@
+pub mod Days
+pub mod Names
+pub mod JsonLeaves
+pub mod JsonFronts
+pub mod JsonLaws
+pub mod JsonPrints
+pub mod JsonBack

@@ -1,0 +1,19 @@
+pub mod Bits
+pub mod Standing
+pub mod Same
+pub mod Steps
+pub mod Rows
+pub mod Deciding
+pub mod Refusing
+pub mod OneFault
+pub mod Back
+pub mod Cover
+pub mod Reordered
+pub mod Ordered
+pub mod Honest
+mod Examples
+pub mod PastLimit
+pub mod Limits
+pub mod Opened
+pub mod Placing
+pub mod Names

@@ -1,0 +1,1 @@
+-- What all items of two lists have, all of the joined list have.

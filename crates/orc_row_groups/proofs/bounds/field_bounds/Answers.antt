@@ -1,0 +1,46 @@
+use Rattle.std.proofs.Common.{◌≡◌, ◌+◌, length, take, get_or, ap, arith}
+use Rattle.orc_values.specs.Cells.{values}
+use Rattle.orc_row_groups.specs.OwnCells.{own_cells}
+use Rattle.orc_row_groups.specs.Bounds.{values_before}
+use Rattle.orc_row_groups.proofs.OwnLemmas.{owns_long}
+use Rattle.orc_row_groups.proofs.Groups.{bound_ahead, bound_there, bound_rises, values_between, take_short, found_more}
+use Rattle.orc_row_groups.proofs.bounds.field_bounds.Goals as goal
+use Rattle.orc_values.proofs.Lists.{values_few}
+
+pub owns_between-requires-clause-there : goal.owns_between-requires-clause-there
+owns_between-requires-clause-there c = bound_there c.args.owns.now c.args.bounds.now c.loop-bound.bound-index c.requires c.loop-bound-test.true
+
+pub overflow_add-count : goal.overflow_add-count
+overflow_add-count c =
+    let cells = own_cells c.args.owns.now in
+    let at = c.loop-bound.at in
+    let bound = get_or c.args.bounds.now c.loop-bound.bound-index 0 in
+    omega (
+      arith,
+      c.loop-bound.invariant.counted,
+      c.count_values-count.ensures,
+      ap (λ cs. length (values cs)) c.owns_between.ensures,
+      values_between cells at bound (bound_ahead (length cells) c.args.bounds.now c.loop-bound.bound-index at c.loop-bound-test.true c.loop-bound.invariant.begun),
+      values_few (take bound cells),
+      take_short bound cells,
+      owns_long c.args.owns.now,
+    )
+
+pub loop-bound-preserved : goal.loop-bound-preserved
+loop-bound-preserved c =
+    let cells = own_cells c.args.owns.now in
+    let at = c.loop-bound.at in
+    let i = c.loop-bound.bound-index in
+    let bound = get_or c.args.bounds.now i 0 in
+    let counted : c.loop-bound.count + c.count_values-count.result ≡ values_before cells bound = omega (
+      arith,
+      c.loop-bound.invariant.counted,
+      c.count_values-count.ensures,
+      ap (λ cs. length (values cs)) c.owns_between.ensures,
+      values_between cells at bound (bound_ahead (length cells) c.args.bounds.now c.loop-bound.bound-index at c.loop-bound-test.true c.loop-bound.invariant.begun),
+    ) in
+    record {
+      begun = bound_rises (length cells) c.args.bounds.now i c.requires c.loop-bound-test.true;
+      counted = counted;
+      found = found_more (values_before cells) c.args.bounds.now i _ c.loop-bound.found.items _ c.loop-bound-test.true counted c.in_ok-push.ensures.items c.loop-bound.invariant.found;
+    }

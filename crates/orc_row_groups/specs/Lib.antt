@@ -1,0 +1,5 @@
+pub mod Bounds
+pub mod Groups
+pub mod Counts
+pub mod OwnCells
+pub mod Subtrees

@@ -1,6 +1,0 @@
-use Rattle.std.proofs.Common.{◌-◌}
-use Rattle.orc_row_index.proofs.Groups.{lent_between}
-use Rattle.orc_row_index.proofs.between.cells_between.Goals as goal
-
-pub returns : goal.returns
-returns c = lent_between c.args.cells.now c.args.start (c.args.end - c.args.start)

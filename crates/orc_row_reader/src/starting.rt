@@ -1,0 +1,86 @@
+//! The readers of a schema's columns at the start of their streams, down the schema's tree.
+
+ghost use Rattle.std.specs.Prelude.{◌≢◌, ◌<◌, ◌≤◌, ◌+◌, ℕ, false, List, length, IfErr, OnOk};
+ghost use Rattle.orc_values.specs.Cells.{Cell};
+ghost use Rattle.orc_values.specs.Shapes.{width, widths};
+ghost use Rattle.orc_values.specs.Views.{shape, fields as fields_view};
+ghost use Rattle.orc_column_reader.specs.Faults.{FaultDown, FaultWithin};
+ghost use Rattle.orc_directory.specs.Located.{AreLocated};
+ghost use Rattle.orc_column_reader.specs.Starting.{PutsReaders, PutsFields};
+ghost use Rattle.orc_column_reader.specs.Stripe.{columns_of, columns_from, SpellsCells, SpellsFields};
+ghost use Rattle.orc_directory.specs.declared.fault.StripeFault.TheVariants.{OutOfMemory};
+
+use orc_column_reader::{ColumnReader, reader_of};
+use orc_directory::{Located, StripeFault};
+use orc_values::{Field, Tree};
+use orc_wire::StripeFooter;
+use std::alloc::Global;
+
+/// The readers of a column and of those below it, at the end of those of the columns before.
+#[cycle(starting)]
+pub fn put_tree<'a>(
+    alloc: Global,
+    tree: &Tree,
+    footer: &StripeFooter,
+    located: &Located<'a>,
+    readers: &mut Vec<ColumnReader<'a>>,
+) -> Result<(), StripeFault>
+    requires there { length readers.old.items + width (shape tree.now) ≤ length footer.now.columns }
+    requires located { AreLocated (length footer.now.columns) footer.now.streams
+        located.now.bytes.now located.now.slices.items }
+    // Where the directory's streams are located, readers of the column and of those below it come
+    // behind those before, each at the start of its streams, with its column's number.
+    ensures found { OnOk result (PutsReaders footer.now located.now.bytes.now
+        (shape tree.now) readers.old.items readers.new.items) }
+    // A refusal other than want of memory stands: the streams spell no cells of the type, and the
+    // fault is one of these columns, however many cells are wanted.
+    ensures none { IfErr result (λ fault. fault ≢ OutOfMemory → (cells : List Cell)
+        → SpellsCells (shape tree.now) (columns_from footer.now located.now.bytes.now (length readers.old.items)) cells
+        → ⊥) }
+    ensures fault { IfErr result (λ cause. cause ≢ OutOfMemory
+        → (count : ℕ) → FaultDown (shape tree.now) (columns_of footer.now located.now.bytes.now)
+        (length readers.old.items) false count cause) }
+{
+    let own = reader_of(alloc, tree, readers.len(), footer, located)?;
+    readers.push(own)?;
+    match tree {
+        Tree::Scalar(_, _) => Ok(()),
+        Tree::List(element, _) => put_tree(alloc, element, footer, located, readers),
+        Tree::Map(key, value, _) => {
+            put_tree(alloc, key, footer, located, readers)?;
+            put_tree(alloc, value, footer, located, readers)
+        }
+        Tree::Struct(fields, _) => put_fields(alloc, fields, footer, located, readers),
+    }
+}
+
+/// The readers of the fields' columns, at the end of those of the columns before.
+#[cycle(starting)]
+fn put_fields<'a>(
+    alloc: Global,
+    fields: &[Field],
+    footer: &StripeFooter,
+    located: &Located<'a>,
+    readers: &mut Vec<ColumnReader<'a>>,
+) -> Result<(), StripeFault>
+    requires there { length readers.old.items + widths (fields_view fields.now) ≤ length footer.now.columns }
+    requires located { AreLocated (length footer.now.columns) footer.now.streams
+        located.now.bytes.now located.now.slices.items }
+    ensures found { OnOk result (PutsFields footer.now located.now.bytes.now
+        (fields_view fields.now) readers.old.items readers.new.items) }
+    ensures none { IfErr result (λ fault. fault ≢ OutOfMemory → (structs : List (List Cell))
+        → SpellsFields (fields_view fields.now)
+        (columns_from footer.now located.now.bytes.now (length readers.old.items)) structs
+        → ⊥) }
+    ensures fault { IfErr result (λ cause. cause ≢ OutOfMemory
+        → (count : ℕ) → FaultWithin (fields_view fields.now) (columns_of footer.now located.now.bytes.now)
+        (length readers.old.items) false count cause) }
+{
+    match fields {
+        [] => Ok(()),
+        [first, others @ ..] => {
+            put_tree(alloc, &first.tree, footer, located, readers)?;
+            put_fields(alloc, others, footer, located, readers)
+        }
+    }
+}

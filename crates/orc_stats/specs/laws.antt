@@ -1,0 +1,3 @@
+pub mod OwnCells
+pub mod TallyKinds
+pub mod TallyLaws

@@ -1,0 +1,12 @@
+//! Stripes that are read: columns and streams to rows. What streams spell is said by `orc_column_reader`.
+#![tactic(auto)]
+
+mod cursor;
+mod groups;
+mod laws;
+mod stepping;
+mod view;
+
+pub use cursor::RowCursor;
+pub use laws::{column_laws, group_laws, stripe_laws};
+pub use view::{IndexText, StripeView, read_index};

@@ -1,0 +1,13 @@
+use Rattle.std.proofs.Common.{[], ◌∷◌, ◌++◌, sym, ap, ◌∙◌, append-nil}
+use Rattle.std.proofs.lemmas.List.{map-append}
+use Rattle.orc_values.specs.Cells.{parts}
+use Rattle.orc_values.specs.Views.{lent_views, view}
+use Rattle.orc_trees.proofs.columns.lend_field.Goals as goal
+use Rattle.orc_values.proofs.Lists.{cell_there, cell_missing}
+
+pub returns : goal.returns
+returns c =
+    ap lent_views c.in_ok-push.ensures.items ∙ map-append (λ r. view r.now) c.args.found.now.items (c.in-Some.field ∷ []) ∙ ap (λ xs. lent_views c.args.found.now.items ++ xs) (cell_there (parts (view c.args.row.now)) c.args.i (view c.in-Some.field.now) c.in-Some.ensures)
+
+pub returns-in_default : goal.returns-in_default
+returns-in_default c = sym (append-nil (lent_views c.args.found.now.items)) ∙ ap (λ xs. lent_views c.args.found.now.items ++ xs) (cell_missing (parts (view c.args.row.now)) c.args.i c.in_default.ensures)

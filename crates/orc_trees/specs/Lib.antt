@@ -1,0 +1,4 @@
+pub mod NameFaults
+pub mod SchemaText
+pub mod TextFaults
+pub mod TextFronts

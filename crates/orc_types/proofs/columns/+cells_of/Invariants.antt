@@ -1,6 +1,0 @@
-use Rattle.orc_values.specs.Shapes.{width}
-use Rattle.orc_values.specs.Views.{shape}
-use Rattle.orc_types.proofs.columns.+cells_of.Given as goal
-
-abbrev pub decreases-cells_of : goal.decreases-cells_of
-decreases-cells_of l = width (shape l.tree.now)

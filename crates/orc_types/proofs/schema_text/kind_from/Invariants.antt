@@ -1,6 +1,0 @@
-use Rattle.std.proofs.Common.{drop}
-use Rattle.orc_types.proofs.TextFronts.{KindsLeft}
-use Rattle.orc_types.proofs.schema_text.kind_from.Given as goal
-
-abbrev pub invariant-loop-kind : goal.invariant-loop-kind
-invariant-loop-kind l = KindsLeft l.text (drop l.kind-index l.kind-items)
