@@ -1,5 +1,7 @@
 """vectors/README.md: what the vectors are, how a reader uses them, and which rule each shows."""
+from .classes import CLASSES, class_of, left_out, sentences_of
 from .rules import OWN, RULES
+from .sentences import SENTENCES
 
 # what scripts/compare-with-protoc said last
 PROTOC = (
@@ -14,6 +16,19 @@ FOLDER` makes these: in `FOLDER/tried` stands what is tried as the files here ar
 whose stripes have so many bytes that none can be held, each with its `NAME.show` alone. What has so many
 bytes is a hole in its file, and takes a few KB of a disk. Not shown, since they are no matter of files: the
 text of a schema as it is read, lines of JSON as they are read, and a cap on what is read at once."""
+
+# what stands above the tables
+FILES = """The last column has the class, and for `must` the sentences of the specification, else its sections: *own*
+where the published specification leaves the rule open or says less."""
+LEFT_OUT = """## Files that leave out streams without bytes
+
+`orcm write` leaves out a stream without bytes, and so do the files of this table, in these columns. A column
+has such streams where all its values are null in a stripe, where it has no values since the lists or maps
+above it are all empty or null or the structs above it are all null, and where its texts or bytes are all
+empty. Apache's C++ reader asks for DATA and LENGTH by name, and so is known to refuse such files. That
+Apache's Java reader finds a group of such a column by the row index wasn't tried: the files here that have a
+`NAME.from-S-G.json` are for that. None of these files is `must`. `LEFT-OUT` has each stream, and those of
+`written/` too."""
 
 HEAD = """# Vectors
 
@@ -33,6 +48,7 @@ makes, `scripts/try-vectors` runs `orcm` over all of it.
 | `NAME.from-S-G.json` | the rows from group G of stripe S on, by the row indexes |
 | `NAME.from-S-G.fault` | why these can't be read |
 | `NAME.fault` | the file has to be refused, and why, in the words of `orcm` |
+| `NAME.tools.json` | of a `must`: the rows in the form that `orc-tools data` is known to print |
 | `NAME.merge` | in `merges/` and `order/`: inputs, a line each; `NAME.orc` is what they become, byte for byte |
 
 Each file with a `NAME.fault` has one fault, but for those of `order/`, which have two. Where a
@@ -41,6 +57,9 @@ has no `NAME.orc`, its `NAME.fault` says why the inputs become none.
 
 `NAME.show`, `NAME.check`, `NAME.merge` and the words of faults are for `orcm` and for who compares
 with it; another reader needs `NAME.orc`, `NAME.json`, that there is a `NAME.fault`, and `from`.
+Two lists stand in this folder. `CLASSES` has a line `NAME CLASS` for each vector ([classes](#classes)).
+`LEFT-OUT` has a line `NAME STRIPE COLUMN KIND` for each stream without bytes that a file which is read
+leaves out ([more on that](#files-that-leave-out-streams-without-bytes)).
 In `written/` stands what this project's writer has to make of the rows of the vector of the same name,
 byte for byte, by the words in `NAME.write`: other readers need not look at it.
 
@@ -51,22 +70,43 @@ In JSON a text is a string, bytes are a string of lower-case hexadecimal digits,
 `YYYY-MM-DD` in the years 0001 to 9999 and else the number of days since 1970-01-01, a map is an array
 of arrays of a key and a value.
 
+In `NAME.tools.json` bytes are an array of numbers from 0 to 255, a map is an array of objects with the
+keys `_key` and `_value`, and the keys of any other object stand in the order of the fields. That is how
+`orc-tools data`, of Apache's Java tools, is publicly known to print rows; it wasn't run here. With the
+schema of `NAME.show`, [examples/rows-as-tools.jq](../examples/rows-as-tools.jq) makes that form of the
+other one: `jq -c --arg schema 'struct<n:bigint>' -f examples/rows-as-tools.jq NAME.json`.
+
+## Classes
+
+`CLASSES` says of each vector how much it asks of another reader:
+
+{classes}
+
+A class is of what stands beside the file: its rows or its refusal, and the rows from groups on. A file
+that is refused is `must` only if a value that its rows or its types need isn't there, or has no meaning.
+So these aren't `must`: values left over, texts and names that aren't UTF-8, a name that stands twice in a
+struct, a root that is no struct, and how deep types may be. Neither are three sorts of files that are
+read: those with days before 1582-10-15 or after 9999-12-31, which a calendar or a form of JSON decides;
+those with a map whose keys are null or equal; and those that leave out streams without bytes. Each
+`must` names its [sentences](#the-sentences-of-the-specification). In `merges/`, `order/` and `written/`
+stands what this project makes or decides. All of it is `own`, although the files that are made are good.
+
 ## How another reader uses them
 
 `reader FILE` stands for a program that prints a file's rows as lines of JSON and ends with another
-status than 0 where it refuses the file. In shell, with `jq` to compare JSON and not its text (`jq` 1.6
-rounds integers above 2^53, which the lines in Python compare exactly):
+status than 0 where it refuses the file. Both loops go over what is `must`, and tell what differs. In
+shell, with `jq` to compare JSON and not its text (`jq` 1.6 rounds integers above 2^53, which the lines in
+Python compare exactly):
 
 ```sh
 rows=$(mktemp) fault=$(mktemp)
-cd vectors && find . -name '*.orc' ! -path './written/*' | sort | while read -r file; do
-    name=${{file%.orc}}
+cd vectors && grep ' must$' CLASSES | while read -r name class; do
     if [ -e "$name.fault" ]; then
-        reader "$file" >/dev/null 2>&1 && echo "$file is read"
-    elif ! reader "$file" >"$rows" 2>"$fault"; then
-        echo "$file is refused: $(cat "$fault")"
+        reader "$name.orc" >"$rows" 2>"$fault" </dev/null && echo "$name is read"
+    elif ! reader "$name.orc" >"$rows" 2>"$fault" </dev/null; then
+        echo "$name is refused: $(cat "$fault")"
     elif [ "$(jq -cS . "$rows")" != "$(jq -cS . "$name.json")" ]; then
-        echo "$file has other rows"
+        echo "$name has other rows"
     fi
 done
 ```
@@ -76,20 +116,23 @@ In Python:
 ```python
 import json, pathlib, subprocess
 
-for path in sorted(pathlib.Path("vectors").rglob("*.orc")):
-    if "written" in path.parts:
+folder = pathlib.Path("vectors")
+for line in (folder / "CLASSES").read_text().splitlines():
+    name, kind = line.split()
+    if kind != "must":
         continue
-    done = subprocess.run(["reader", path], capture_output=True)
-    if path.with_suffix(".fault").exists() != (done.returncode != 0):
-        print(path, "is read" if done.returncode == 0 else "is refused")
+    done = subprocess.run(["reader", folder / (name + ".orc")], capture_output=True)
+    if (folder / (name + ".fault")).exists() != (done.returncode != 0):
+        print(name, "is read" if done.returncode == 0 else "is refused")
     elif done.returncode == 0:
-        rows, wanted = done.stdout.splitlines(), path.with_suffix(".json").read_bytes().splitlines()
+        rows, wanted = done.stdout.splitlines(), (folder / (name + ".json")).read_bytes().splitlines()
         if [json.loads(row) for row in rows] != [json.loads(row) for row in wanted]:
-            print(path, "has other rows")
+            print(name, "has other rows")
 ```
 
-Where the table says *own*, the published specification leaves the rule open or says less: a reader
-that answers otherwise there isn't wrong. docs/FORMAT.md says what others do, where it is known.
+A reader that prints rows as `orc-tools data` does is compared with `NAME.tools.json`: put `.tools.json`
+in place of `.json`. To go over `may` too, write `'must$\|may$'` or `not in ("must", "may")`: what differs
+there is no fault of a reader. docs/FORMAT.md says what others do, where it is known.
 
 ## The messages by another's word
 
@@ -137,17 +180,55 @@ def rules_table(vectors):
     return lines + ["", NOT_SHOWN, ""]
 
 
+def classes_table(vectors):
+    """How many files of each class are read, and how many are refused."""
+    lines = ["| Class | What it means | Read | Refused |", "|---|---|---|---|"]
+    for name, meaning in CLASSES.items():
+        refused = [bool(vector.fault) for vector in vectors if hasattr(vector, "file") and class_of(vector) == name]
+        lines.append(f"| `{name}` | {meaning} | {refused.count(False)} | {refused.count(True)} |")
+    return "\n".join(lines)
+
+
+def sentences_table():
+    """What the specification says, by the names that the files' lines have."""
+    lines = [
+        "## The sentences of the specification",
+        "",
+        "In words of our own. The sections are those of the ORC specification, version 1, and of the documents of",
+        "Protocol Buffers.",
+        "",
+        "| Sentence | Section | What it says |",
+        "|---|---|---|",
+    ]
+    return lines + [f"| `{name}` | {section} | {words} |" for name, (section, words) in SENTENCES.items()] + [""]
+
+
+def left_out_table(vectors):
+    """Which files leave out streams without bytes, and of which columns."""
+    lines = [LEFT_OUT, "", "| File | Columns |", "|---|---|"]
+    for vector in vectors:
+        columns = list(dict.fromkeys(column for _, column, _ in left_out(vector)))
+        if columns:
+            lines.append(f"| `{vector.name}` | {', '.join(map(str, columns))} |")
+    return lines + [""]
+
+
+def line_of(vector):
+    """The line of a file."""
+    name = vector.name.rpartition("/")[2] + (".merge" if not hasattr(vector, "file") else "")
+    rules = ", ".join(f"`{rule}`" for rule in vector.rules)
+    specs = "; ".join(dict.fromkeys(spec_of(rule) for rule in vector.rules))
+    said = ", ".join(f"`{name}`" for name in sentences_of(vector))
+    said = f"must: {said}" if said else f"{class_of(vector)}: {specs}"
+    return f"| `{name}`{' refused' if vector.fault else ''} | {vector.shows} | {rules} | {said} |"
+
+
 def files_table(vectors):
     """A line a file."""
-    lines = ["## From a file to what it shows", ""]
+    lines = ["## From a file to what it shows", "", FILES, ""]
     for folder, inside in in_folders(vectors).items():
-        lines += [f"### {folder}/", "", "| File | What it shows | Rules | In the specification |", "|---|---|---|---|"]
-        for vector in inside:
-            name = vector.name.rpartition("/")[2] + (".merge" if not hasattr(vector, "file") else "")
-            rules = ", ".join(f"`{rule}`" for rule in vector.rules)
-            specs = "; ".join(dict.fromkeys(spec_of(rule) for rule in vector.rules))
-            lines.append(f"| `{name}`{' refused' if vector.fault else ''} | {vector.shows} | {rules} | {specs} |")
-        lines.append("")
+        title = ["| File | What it shows | Rules | Class, and in the specification |", "|---|---|---|---|"]
+        lines += [f"### {folder}/", "", *title, *map(line_of, inside), ""]
     return lines
 
 
@@ -159,5 +240,7 @@ def page(vectors, written):
         merges=len(merges),
         written=len(written),
         protoc=PROTOC.format(same=SAME, otherwise=OTHERWISE),
+        classes=classes_table(vectors),
     )
-    return head + "\n".join(rules_table(vectors) + files_table(vectors)).rstrip() + "\n"
+    tables = rules_table(vectors) + sentences_table() + left_out_table(vectors) + files_table(vectors)
+    return head + "\n".join(tables).rstrip() + "\n"

@@ -126,3 +126,27 @@ def compact(value):
 def lines(root, rows):
     """Rows as lines of JSON."""
     return "".join(compact(json_value(root, row)) + "\n" for row in rows)
+
+
+def tools_value(each, cell):
+    """A cell as `orc-tools data` of Apache's Java tools is known to print it."""
+    if cell is None:
+        return None
+    if each.kind == DATE:
+        return day_text(cell)
+    if each.kind == BINARY:
+        return list(cell)
+    if each.kind == LIST:
+        return [tools_value(each.children[0], item) for item in cell]
+    if each.kind == MAP:
+        key, value = each.children
+        return [{"_key": tools_value(key, pair[0]), "_value": tools_value(value, pair[1])} for pair in cell]
+    if each.kind == STRUCT:
+        return {name: tools_value(child, cell.get(name)) for name, child in zip(each.names, each.children)}
+    return cell
+
+
+def tools_lines(root, rows):
+    """Rows as lines in that form: the keys of an object in the order of the fields."""
+    values = [tools_value(root, row) for row in rows]
+    return "".join(json.dumps(value, ensure_ascii=False, separators=(",", ":")) + "\n" for value in values)

@@ -45,6 +45,8 @@ class Laid:
     footer: int
     rows: int
     stats: list
+    # the columns and kinds of streams that are left out since they have no bytes
+    left_out: list
 
 
 @dataclass
@@ -92,7 +94,17 @@ class Stripe:
             + b"".join(fields.block(2, self.encoding_text(at, encodings[at])) for at in range(len(columns)))
         )
         stats = [self.stats.get(at, of_cells(each.kind, found[at])) for at, each in enumerate(columns)]
-        return Laid(content + footer, front, len(content) - front, len(footer), len(self.rows), stats)
+        left_out = [stream for stream in self.empty_streams(columns, found) if stream not in streams]
+        return Laid(content + footer, front, len(content) - front, len(footer), len(self.rows), stats, left_out)
+
+    def empty_streams(self, columns, found):
+        """The streams, but for PRESENT, that have no bytes by what they mean: columns and kinds."""
+        return [
+            (at, kind)
+            for at, each in enumerate(columns)
+            for kind, values in self.meant(at, each, found[at]).items()
+            if kind != PRESENT and not values
+        ]
 
     def encoding(self, at, each, version):
         """A column's encoding: direct, by dictionary where there is one, in the version of its integers."""

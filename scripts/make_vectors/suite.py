@@ -1,5 +1,6 @@
 """All vectors, and the files that they are."""
 from . import (
+    classes,
     of_columns,
     of_indexes,
     of_integers,
@@ -13,6 +14,7 @@ from . import (
     published,
 )
 from .page import page
+from .rows import tools_lines
 from .rules import RULES
 from .written import Written
 
@@ -55,9 +57,13 @@ def files():
     """What stands in vectors/: names, and bytes."""
     published.test()
     all_of_them = vectors()
+    classes.test(all_of_them)
     again = written(all_of_them)
-    found = {"README.md": page(all_of_them, again).encode()}
+    found = {"README.md": page(all_of_them, again), "CLASSES": classes.text(all_of_them, again)}
+    found["LEFT-OUT"] = classes.left_out_text(all_of_them + again)
     for vector in all_of_them + again:
-        for end, content in vector.parts().items():
-            found[vector.name + end] = content.encode() if isinstance(content, str) else content
-    return found
+        found |= {vector.name + end: content for end, content in vector.parts().items()}
+    for vector in all_of_them:
+        if not vector.fault and classes.class_of(vector) == "must":
+            found[vector.name + ".tools.json"] = tools_lines(vector.file.root, vector.file.rows())
+    return {name: content.encode() if isinstance(content, str) else content for name, content in found.items()}
