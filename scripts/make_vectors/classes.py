@@ -35,41 +35,48 @@ MUST = {
     "v2-patched": "integers-2/patched-cut",
     "run-count": "integers-1/too-few integers-1/no-runs integers-2/too-few bytes/too-few booleans/no-bytes "
     "nested/names-and-a-number-missing nested/second-field-without-its-stream nested/number-too-few "
-    "tells-of-much/booleans-* tells-of-much/bytes-67108864 tells-of-much/bytes-2147483647 tells-of-much/bytes-of-a-list-* "
-    "tells-of-much/numbers-* tells-of-much/no-numbers-* tells-of-much/indexes-* tells-of-much/texts-* "
-    "tells-of-much/lists-of-a-list-* tells-of-much/pairs-of-a-map-*",
+    "tells-of-much/booleans-* tells-of-much/bytes-67108864 tells-of-much/bytes-2147483647 "
+    "tells-of-much/bytes-of-a-list-* tells-of-much/numbers-* tells-of-much/no-numbers-* "
+    "tells-of-much/indexes-* tells-of-much/texts-* tells-of-much/lists-of-a-list-* "
+    "tells-of-much/pairs-of-a-map-*",
     "column-kinds": "numbers/extremes",
     "byte-runs": "bytes/run-cut bytes/literals-cut booleans/cut",
     "boolean-runs": "booleans/nine-in-a-byte booleans/one-byte-fewer",
     "strings-direct": "strings/binary strings/empty-listed strings/data-too-short strings/texts-too-long "
-    "strings/lengths-that-wrap strings/lengths-too-few nested/fewer-keys-than-lengths tells-of-much/bytes-of-a-text-*",
+    "strings/lengths-that-wrap strings/lengths-too-few nested/fewer-keys-than-lengths "
+    "tells-of-much/bytes-of-a-text-*",
     "strings-dictionary": "strings/index-past-the-entries strings/index-past-the-entries-1 strings/entries-too-short "
     "strings/lengths-of-entries-that-wrap tells-of-much/entries-* tells-of-much/bytes-of-an-entry-*",
-    "nulls": "nulls/all-listed nulls/too-few nulls/present-cut nested/more-elements-than-present tells-of-much/nulls-*",
+    "nulls": "nulls/all-listed nulls/too-few nulls/present-cut nested/more-elements-than-present "
+    "tells-of-much/nulls-*",
     "cells": "nested/names-in-any-order",
     "lists": "nested/list-without-its-length nested/fewer-elements-than-lengths",
-    "maps": "nested/fewer-keys-than-pairs nested/more-maps-than-lengths nested/map-without-its-length nested/key-too-few",
+    "maps": "nested/fewer-keys-than-pairs nested/more-maps-than-lengths nested/map-without-its-length "
+    "nested/key-too-few",
     "encodings": "stripes/encoding-missing",
     "messages": "stripes/footer-cut tails/footer-cut tails/postscript-cut tails/magic-cut tails/field-of-wire-type-6",
     "messages-missing": "tails/no-compression-field",
     "messages-lists": "tails/version-not-packed",
     "tail-lengths": "tails/two-bytes tails/three-bytes tails/postscript-too-long tails/footer-too-long",
-    "types": "tails/type-in-itself tails/list-of-the-root tails/type-that-is-missing tails/list-of-none tails/map-of-none "
-    "tails/map-of-one tails/map-value-missing tails/32-levels-and-no-more-types tails/subtype-of-32-bits",
+    "types": "tails/type-in-itself tails/list-of-the-root tails/type-that-is-missing tails/list-of-none "
+    "tails/map-of-none tails/map-of-one tails/map-value-missing tails/32-levels-and-no-more-types "
+    "tails/subtype-of-32-bits",
 }
 # vectors of another class than their rules say
 OTHERS = {
-    "may": "strings/dictionary-in-any-order strings/dictionary-entry-* nested/empty-structs nested/no-columns "
-    "nested/32-levels nested/32-levels-of-structs nested/names-and-no-text nested/names-and-a-number-left-over "
-    "nulls/rows integers-2/patched-to-the-greatest stripes/of-no-rows stripes/kinds-* stripes/numbers-of-32-bits "
-    "stripes/bytes-behind-the-streams stripes/dictionary-size-of-a-direct-column indexes/at-the-end "
-    "indexes/in-any-order indexes/without-a-stride indexes/stripe-of-no-rows statistics/record-without-values "
-    "statistics/record-of-another-kind statistics/nulls-of-two statistics/bounds-of-long-texts tails/no-magic "
-    "tails/empty-magic tails/lengths-that-nobody-reads tails/known-numbers-of-other-types tails/names "
-    "tails/names-escaped tails/32-levels",
-    "own": "bytes/two-versions booleans/two-versions indexes/of-an-empty-present* indexes/group-behind-the-last "
-    "indexes/places-that-are-not-there indexes/no-group-in-a-stripe-of-no-rows indexes/damaged-stripe-before "
-    "statistics/booleans statistics/second-bucket stripes/footer-of-a-group tails/footer-of-a-group tails/name-twice*",
+    "may": "strings/dictionary-in-any-order strings/dictionary-entry-* nested/empty-structs "
+    "nested/no-columns nested/32-levels nested/32-levels-of-structs nested/names-and-no-text "
+    "nested/names-and-a-number-left-over nulls/rows integers-2/patched-to-the-greatest "
+    "stripes/of-no-rows stripes/kinds-* stripes/numbers-of-32-bits stripes/bytes-behind-the-streams "
+    "stripes/dictionary-size-of-a-direct-column indexes/at-the-end indexes/in-any-order "
+    "indexes/without-a-stride indexes/stripe-of-no-rows statistics/record-without-values "
+    "statistics/record-of-another-kind statistics/nulls-of-two statistics/bounds-of-long-texts "
+    "tails/no-magic tails/empty-magic tails/lengths-that-nobody-reads "
+    "tails/known-numbers-of-other-types tails/names tails/names-escaped tails/32-levels",
+    "own": "bytes/two-versions booleans/two-versions indexes/group-behind-the-last "
+    "indexes/places-that-are-not-there indexes/no-group-in-a-stripe-of-no-rows "
+    "indexes/damaged-stripe-before statistics/booleans statistics/second-bucket "
+    "stripes/footer-of-a-group tails/footer-of-a-group tails/name-twice*",
     "profile": "tails/kind-5 tails/kind-6 tails/kind-9 tails/kind-1? tails/root-of-* tails/version-of-17-numbers",
 }
 KIND_NAMES = {DATA: "DATA", LENGTH: "LENGTH", DICTIONARY_DATA: "DICTIONARY_DATA"}
@@ -111,7 +118,7 @@ def file_of(vector):
 
 
 def left_out(vector):
-    """The streams without bytes that a vector's file leaves out: stripe, column and kind. None of one that is refused."""
+    """The streams without bytes that a vector's file leaves out: stripe, column and kind. Of one that is refused none."""
     file = None if getattr(vector, "fault", None) else file_of(vector)
     return [(at, *stream) for at, laid in enumerate(file.laid) for stream in laid.left_out] if file else []
 

@@ -244,9 +244,17 @@ def positions():
         ),
         good(
             "of-an-empty-present",
-            "positions nulls",
+            "positions nulls empty-present",
             "a PRESENT without bytes has no position",
             File("struct<n:int>", [Stripe(rows([1, 2, 3]), {(1, PRESENT): []})], stride=2),
+        ),
+        found(
+            "of-an-empty-present-with-positions",
+            "empty-present findings-positions",
+            "its three positions stand there all the same, as other writers are known to record them",
+            File("struct<n:int>", [Stripe(rows([1, 2, 3]), {(1, PRESENT): []}, empty_present=True)], stride=2),
+            ["IndexPosition 0 1 0", "IndexPosition 0 1 1"],
+            dict.fromkeys([(0, 0), (0, 1)], "file 12 Stripe(0): stripe 8 BadPosition(1)"),
         ),
         good(
             "at-the-end",

@@ -20,6 +20,24 @@ text of a schema as it is read, lines of JSON as they are read, and a cap on wha
 # what stands above the tables
 FILES = """The last column has the class, and for `must` the sentences of the specification, else its sections: *own*
 where the published specification leaves the rule open or says less."""
+LAYOUTS = """## As other writers lay files out
+
+The folders `as-java/` to `as-rust/` have the same rows in the layouts of five writers, as far as these are
+publicly known. **None of these files was compared with a file of the writer.** They were made from what is
+known of the writers' public sources, without a copy of these at hand, and each writer may do otherwise today.
+[docs/OTHER-TOOLS.md](../docs/OTHER-TOOLS.md#layouts-of-other-writers) says what `orcm` answers of them.
+
+| Folder | Writer | What is known of it, and is so in the files | Known from |
+|---|---|---|---|
+| `as-java/` | Apache's Java writer | row indexes first; PRESENT and its positions stand only where a value of the stripe is null; streams without bytes are listed; a dictionary if at most 0.8 of the texts are distinct; patched runs whose gaps go above 255 by entries of patch 0; bytes on disk in the statistics of stripes and file; the writer's time zone in the stripe's footer; the calendar (field 11) and the software's version (field 12) in the file's footer; writer 0 | the sources of Apache ORC, `java/core` |
+| `as-hive/` | Hive 0.11; Hive 0.12 in the files whose names end in `-12` | version 0.11 with runs of version 1 and a dictionary for all texts, 0.12 with runs of version 2; no hasNull, no element counts; no metadata, so no statistics of stripes; neither a writer nor a version of it | the sources of Hive, `ql/io/orc`; the specification's notes on versions |
+| `as-cpp/` | Apache's C++ writer | PRESENT of each column always, also without bytes, and its three positions; streams without bytes are listed; LENGTH in front of DATA; no dictionary; writer 1 | the sources of Apache ORC, `c++/src` |
+| `as-trino/` | Trino's | no hasNull, no element counts; data streams in the order of their lengths; user metadata with a version and the number of a query; writer 4 | the sources of Trino, `lib/trino-orc`; the list of writers in orc_proto.proto |
+| `as-rust/` | a writer in Rust | no statistics at all, and no row index; writer and version of 2^32 - 1 | the sources of the crate `orc-rust` |
+
+`NAME-twice` is the merge of `NAME` with itself. Where what is known leaves a choice, such as that of runs, the
+files have what this project's writer chooses.
+"""
 LEFT_OUT = """## Files that leave out streams without bytes
 
 `orcm write` leaves out a stream without bytes, and so do the files of this table, in these columns. A column
@@ -105,7 +123,7 @@ cd vectors && grep ' must$' CLASSES | while read -r name class; do
         reader "$name.orc" >"$rows" 2>"$fault" </dev/null && echo "$name is read"
     elif ! reader "$name.orc" >"$rows" 2>"$fault" </dev/null; then
         echo "$name is refused: $(cat "$fault")"
-    elif [ "$(jq -cS . "$rows")" != "$(jq -cS . "$name.json")" ]; then
+    elif ! jq -en --slurpfile a "$rows" --slurpfile b "$name.json" '$a == $b' >"$fault" 2>&1; then
         echo "$name has other rows"
     fi
 done
@@ -242,5 +260,5 @@ def page(vectors, written):
         protoc=PROTOC.format(same=SAME, otherwise=OTHERWISE),
         classes=classes_table(vectors),
     )
-    tables = rules_table(vectors) + sentences_table() + left_out_table(vectors) + files_table(vectors)
+    tables = rules_table(vectors) + sentences_table() + [LAYOUTS] + left_out_table(vectors) + files_table(vectors)
     return head + "\n".join(tables).rstrip() + "\n"

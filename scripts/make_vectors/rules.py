@@ -100,6 +100,7 @@ RULES = {
         "of each stream of runs a run's offset and what is passed; of bytes the offset",
     ),
     "positions-own": ("Positions", OWN, "any position that names the value is read"),
+    "empty-present": ("Row indexes", OWN, "a PRESENT that is listed without bytes has no positions"),
     "index-groups": (
         "Row indexes",
         "Indexes: Row Group Index",

@@ -19,12 +19,18 @@ class Stat:
     """How many values, whether one is null (None where that is not known), and the parts that are known."""
 
     def __init__(self, count, nulls, **parts):
-        self.count, self.nulls, self.parts, self.text = count, nulls, parts, None
+        self.count, self.nulls, self.parts, self.text, self.size = count, nulls, parts, None, None
 
     def spelled(self, text):
         """The same, written as these bytes."""
         self.text = text
         return self
+
+    def on_disk(self, size):
+        """The same with the bytes that the column has on the disk, which nobody reads."""
+        found = self.but()
+        found.size = size
+        return found
 
     def but(self, count=None, nulls="same", **parts):
         """The same with some of it changed; a part that is None is not known any more."""
@@ -97,4 +103,6 @@ def message(kind, stat):
         parts[RECORDS[kind][0]] = fields.block(RECORDS[kind][0], record(kind, stat.parts))
     if stat.nulls is not None:
         parts[10] = fields.number(10, int(stat.nulls))
+    if stat.size is not None:
+        parts[11] = fields.number(11, stat.size)
     return b"".join(parts[number] for number in sorted(parts))

@@ -45,8 +45,9 @@ class Laid:
     footer: int
     rows: int
     stats: list
-    # the columns and kinds of streams that are left out since they have no bytes
+    # the columns and kinds of streams that are left out since they have no bytes; by column the bytes of its data streams
     left_out: list
+    sizes: dict
 
 
 @dataclass
@@ -67,6 +68,8 @@ class Stripe:
     entry_text: object = in_order
     # statistics of columns that differ from those of the rows
     stats: dict = field(default_factory=dict)
+    # whether a PRESENT without bytes has positions too
+    empty_present: bool = False
     # changes the directory's entries, and the footer's text
     arrange: object = as_it_is
     footer: object = as_it_is
@@ -95,7 +98,8 @@ class Stripe:
         )
         stats = [self.stats.get(at, of_cells(each.kind, found[at])) for at, each in enumerate(columns)]
         left_out = [stream for stream in self.empty_streams(columns, found) if stream not in streams]
-        return Laid(content + footer, front, len(content) - front, len(footer), len(self.rows), stats, left_out)
+        parts = front, len(content) - front, len(footer)
+        return Laid(content + footer, *parts, len(self.rows), stats, left_out, sizes_of(streams))
 
     def empty_streams(self, columns, found):
         """The streams, but for PRESENT, that have no bytes by what they mean: columns and kinds."""
@@ -182,7 +186,7 @@ class Stripe:
         values = [cell for cell in before if cell is not None]
         back = self.back.get(at, 0) if isinstance(self.back, dict) else self.back
         found = []
-        if bytes_of(streams.get((at, PRESENT), [])):
+        if bytes_of(streams.get((at, PRESENT), [])) or self.empty_present and (at, PRESENT) in streams:
             found += runs.place_of_bit(streams[at, PRESENT], len(before), back)
         coded = encoding in (DICTIONARY, DICTIONARY_V2)
         if each.kind in (STRING, BINARY) and not coded:
@@ -194,6 +198,14 @@ class Stripe:
         if each.kind in (STRING, BINARY, LIST, MAP) and not coded:
             found += runs.place(streams.get((at, LENGTH), []), len(values), back)
         return found
+
+
+def sizes_of(streams):
+    """By column the bytes of its streams."""
+    found = {}
+    for (at, _), stream in streams.items():
+        found[at] = found.get(at, 0) + len(bytes_of(stream))
+    return found
 
 
 def bytes_of(stream):

@@ -5,6 +5,7 @@ from . import (
     of_indexes,
     of_integers,
     of_integers_2,
+    of_layouts,
     of_merges,
     of_order,
     of_statistics,
@@ -29,6 +30,7 @@ TABLES = [
     of_order,
     of_merges,
     of_writing,
+    of_layouts,
 ]
 
 
