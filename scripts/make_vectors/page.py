@@ -5,10 +5,10 @@ from .sentences import SENTENCES
 
 # what scripts/compare-with-protoc said last
 PROTOC = (
-    "2026-11-28, libprotoc 3.21.12: {same} messages decoded, no unknown field, encoded again to the\n"
+    "2026-12-01, libprotoc 3.21.12: {same} messages decoded, no unknown field, encoded again to the\n"
     "same bytes; {otherwise} that are meant to be otherwise are so."
 )
-SAME, OTHERWISE = 6254, 100
+SAME, OTHERWISE = 7979, 100
 # what no file here shows, and why
 NOT_SHOWN = """Not kept here, since a file would be larger than a few KB: 4,096 types and more, 65,536 stripes and more,
 2^40 rows, 2^40 bytes of stripes and more, a gap of 2^41 bytes between stripes. `scripts/make-vectors --large
@@ -56,7 +56,8 @@ are written again. `scripts/make-vectors` makes them all, by a writer of its own
 specification and from the sentences of [docs/FORMAT.md](../docs/FORMAT.md), and not from the code of
 `orcm`. What stands beside a file is what that writer meant; of the specification's own examples it
 makes the bytes that stand there. `scripts/make-vectors --compare` says whether this folder is what it
-makes, `scripts/try-vectors` runs `orcm` over all of it.
+makes, `scripts/try-vectors` runs `orcm` over all of it. [Their page](../scripts/make_vectors/README.md) says
+how to add a vector in ten lines.
 
 | Beside `NAME.orc` | What it is |
 |---|---|
