@@ -72,11 +72,11 @@ OTHERS = {
     "indexes/without-a-stride indexes/stripe-of-no-rows statistics/record-without-values "
     "statistics/record-of-another-kind statistics/nulls-of-two statistics/bounds-of-long-texts "
     "tails/no-magic tails/empty-magic tails/lengths-that-nobody-reads "
-    "tails/known-numbers-of-other-types tails/names tails/names-escaped tails/32-levels",
+    "tails/known-numbers-of-other-types tails/kept-fields tails/names tails/names-escaped tails/32-levels",
     "own": "bytes/two-versions booleans/two-versions indexes/group-behind-the-last "
     "indexes/places-that-are-not-there indexes/no-group-in-a-stripe-of-no-rows "
     "indexes/damaged-stripe-before statistics/booleans statistics/second-bucket "
-    "stripes/footer-of-a-group tails/footer-of-a-group tails/name-twice*",
+    "statistics/count-of-true-without-values stripes/footer-of-a-group tails/footer-of-a-group tails/name-twice*",
     "profile": "tails/kind-5 tails/kind-6 tails/kind-9 tails/kind-1? tails/root-of-* tails/version-of-17-numbers",
 }
 KIND_NAMES = {DATA: "DATA", LENGTH: "LENGTH", DICTIONARY_DATA: "DICTIONARY_DATA"}

@@ -243,6 +243,30 @@ def positions():
             File("struct<n:int>", [rows([None] * 5)], stride=2),
         ),
         good(
+            "of-empty-lists",
+            "positions missing-streams",
+            "no list has an element: the column below has no stream, and the position 0 0",
+            File("struct<a:array<int>>", [[{"a": cell} for cell in ([], None, [], [], [])]], stride=2),
+        ),
+        good(
+            "of-empty-maps",
+            "positions missing-streams",
+            "no map has a pair: the same of the columns of keys and of values",
+            File("struct<m:map<string,int>>", [[{"m": cell} for cell in ([], None, [])]], stride=2),
+        ),
+        good(
+            "of-null-structs",
+            "positions missing-streams",
+            "all structs are null: the columns below have no stream",
+            File("struct<s:struct<n:int,t:string>>", [[{"s": None}] * 3], stride=2),
+        ),
+        good(
+            "of-empty-binaries",
+            "positions missing-streams",
+            "bytes and texts that are all empty: LENGTH alone",
+            File("struct<v:binary,s:string>", [[{"v": b"", "s": ""}] * 3], stride=2),
+        ),
+        good(
             "of-an-empty-present",
             "positions nulls empty-present",
             "a PRESENT without bytes has no position",

@@ -43,9 +43,9 @@ LEFT_OUT = """## Files that leave out streams without bytes
 `orcm write` leaves out a stream without bytes, and so do the files of this table, in these columns. A column
 has such streams where all its values are null in a stripe, where it has no values since the lists or maps
 above it are all empty or null or the structs above it are all null, and where its texts or bytes are all
-empty. Apache's C++ reader asks for DATA and LENGTH by name, and so is known to refuse such files. That
-Apache's Java reader finds a group of such a column by the row index wasn't tried: the files here that have a
-`NAME.from-S-G.json` are for that. None of these files is `must`. `LEFT-OUT` has each stream, and those of
+empty. Apache's C++ reader is known to ask for DATA and LENGTH by name, and so to refuse such files. Whether
+Apache's Java reader finds a group of such a column by the row index wasn't tried: the files of this table in
+`indexes/` are for that, such as `indexes/of-empty-lists`. None of these files is `must`. `LEFT-OUT` has each stream, and those of
 `written/` too."""
 
 HEAD = """# Vectors
@@ -68,7 +68,7 @@ how to add a vector in ten lines.
 | `NAME.from-S-G.fault` | why these can't be read |
 | `NAME.fault` | the file has to be refused, and why, in the words of `orcm` |
 | `NAME.tools.json` | of a `must`: the rows in the form that `orc-tools data` is known to print |
-| `NAME.merge` | in `merges/` and `order/`: inputs, a line each; `NAME.orc` is what they become, byte for byte |
+| `NAME.merge` | in `merges/`, in `order/`, and of other writers' layouts: inputs, a line each; `NAME.orc` is what they become, byte for byte |
 
 Each file with a `NAME.fault` has one fault, but for those of `order/`, which have two. Where a
 `NAME.json` stands beside it, that has the rows of the stripes before the bad one. Where a `NAME.merge`
@@ -102,13 +102,13 @@ other one: `jq -c --arg schema 'struct<n:bigint>' -f examples/rows-as-tools.jq N
 {classes}
 
 A class is of what stands beside the file: its rows or its refusal, and the rows from groups on. A file
-that is refused is `must` only if a value that its rows or its types need isn't there, or has no meaning.
-So these aren't `must`: values left over, texts and names that aren't UTF-8, a name that stands twice in a
+that is refused is `must` only if something that its rows need isn't there or has no meaning: a value, a
+type, or a part of the tail that leads to them. So these aren't `must`: values left over, texts and names that aren't UTF-8, a name that stands twice in a
 struct, a root that is no struct, and how deep types may be. Neither are three sorts of files that are
 read: those with days before 1582-10-15 or after 9999-12-31, which a calendar or a form of JSON decides;
 those with a map whose keys are null or equal; and those that leave out streams without bytes. Each
-`must` names its [sentences](#the-sentences-of-the-specification). In `merges/`, `order/` and `written/`
-stands what this project makes or decides. All of it is `own`, although the files that are made are good.
+`must` names its [sentences](#the-sentences-of-the-specification). What this project makes or decides, in
+`merges/`, `order/`, `writing/` and `written/` and as `NAME-twice`, is `own`, although the files are good.
 
 ## How another reader uses them
 

@@ -8,11 +8,11 @@ WORDS = {
     "varint": "seven bits a byte, the least first; the top bit says that a byte follows",
     "v1-run": "a control byte of 0 to 127 is the number of values less 3; a step of one byte with a sign and "
     "the first value, a varint, follow; a stream with signs has the first value as zigzag",
-    "v1-literals": "a control byte of -1 to -128 is the number of values below 0; as many varints follow, of a "
+    "v1-literals": "a control byte of -1 to -128 is minus the number of values; as many varints follow, of a "
     "stream with signs as zigzag",
     "v1-choice": "a stream is runs and literals, one after the other",
     "byte-runs": "a control byte of 0 to 127 is the number of bytes less 3, and one byte follows; one of -1 to "
-    "-128 is the number of bytes below 0, and as many follow",
+    "-128 is minus the number of bytes, and as many follow",
     "boolean-runs": "eight values a byte, the first the highest bit; the bytes are runs of bytes",
     "widths": "five bits name a width by the table",
     "v2-short-repeat": "3 bits for the bytes less 1, 3 for the number of values less 3, and the value, its high byte "
@@ -58,7 +58,7 @@ WORDS = {
     "dictionary's own streams",
     "index-groups": "an entry for each rowIndexStride rows of the stripe, the last perhaps for fewer",
     "index-entries": "a row index is a message with an entry for each group, in order",
-    "messages": "a message is fields, each of a key and a payload whose form the key's wire type says: 0, 1, 2 or 5",
+    "messages": "a message is fields in any order, each of a key and a payload whose form the key's wire type says: 0, 1, 2 or 5",
     "messages-unknown": "a parser passes over fields that it doesn't know",
     "messages-missing": "a field that isn't there has its default: 0, the first value of an enum, an empty text",
     "messages-last": "if a field that isn't repeated stands more than once, a parser takes the last value",
