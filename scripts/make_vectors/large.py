@@ -6,7 +6,8 @@ from .fields import block
 from .file import File
 from .merged import Merged
 from .of_merges import MOST_ROWS, NO_ENCODING, Merge, told_rows
-from .of_tails import kind, told_stripe, types_file
+from .of_tails import told_stripe
+from .of_types import kind, types_file
 from .rows import STRUCT
 from .stripe import Stripe
 from .vector import Vector

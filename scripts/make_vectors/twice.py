@@ -4,7 +4,7 @@ show nothing of the format that the vectors don't, so they are made where they a
 import dataclasses
 import pathlib
 
-from . import of_columns, of_integers, of_integers_2, of_stripes
+from . import of_columns, of_integers, of_integers_2, of_nested, of_stripes
 from .file import File
 from .rows import STRUCT, Type
 from .runs import UNSIGNED, data_of, direct
@@ -41,7 +41,8 @@ def twice(vector):
 
 def write(folder):
     """Writes them all, as the vectors stand in their folders."""
-    tables = of_integers.vectors() + of_integers_2.vectors() + of_columns.vectors() + of_stripes.much()
+    tables = of_integers.vectors() + of_integers_2.vectors() + of_columns.vectors() + of_nested.vectors()
+    tables += of_stripes.much()
     for vector in [*tables, elements()]:
         for end, content in twice(vector).parts().items() if can_be_twice(vector) else ():
             path = pathlib.Path(folder, vector.name + end)
