@@ -8,7 +8,7 @@ PROTOC = (
     "2026-12-01, libprotoc 3.21.12: {same} messages decoded, no unknown field, encoded again to the\n"
     "same bytes; {otherwise} that are meant to be otherwise are so."
 )
-SAME, OTHERWISE = 7979, 100
+SAME, OTHERWISE = 8039, 100
 # what no file here shows, and why
 NOT_SHOWN = """Not kept here, since a file would be larger than a few KB: 4,096 types and more, 65,536 stripes and more,
 2^40 rows, 2^40 bytes of stripes and more, a gap of 2^41 bytes between stripes. `scripts/make-vectors --large
