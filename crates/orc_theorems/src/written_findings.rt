@@ -12,7 +12,7 @@ ghost use Rattle.orc_check.specs.Findings.{Findings};
 pub fn written_finding_laws()
     // If bytes are laid out as a writer writes a file of some rows, with any stride, and are a file with these
     // rows, then the file has no findings.
-    ensures written { (options : Options) (s : Shape) (tail : Tail) (bytes : List ℕ) (rows : List Cell)
+    ensures { (options : Options) (s : Shape) (tail : Tail) (bytes : List ℕ) (rows : List Cell)
         → IsWrittenFile options s tail bytes rows
         → FileIs bytes tail rows → Findings bytes tail rows [] }
 {}

@@ -24,7 +24,7 @@ returns-clause-statistics c = λ options schema tail first told rows wrote. (
 pub returns-clause-checked : goal.returns-clause-checked
 returns-clause-checked c = λ options schema tail first told rows found wrote findings.
     let is = c.written_laws.ensures.rows options schema tail wrote.bytes rows wrote.schema wrote.file wrote.few in
-    c.finding_laws.ensures.one wrote.bytes tail rows found [] findings (c.written_finding_laws.ensures.written options schema tail wrote.bytes rows wrote.file is)
+    c.finding_laws.ensures.one wrote.bytes tail rows found [] findings (c.written_finding_laws.ensures options schema tail wrote.bytes rows wrote.file is)
 
 pub returns-clause-one : goal.returns-clause-one
 returns-clause-one c = λ options schema tail other first told start end rows wrote another.
