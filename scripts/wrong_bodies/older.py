@@ -40,6 +40,11 @@ def without_crate(text):
     return text.partition(" ")[2]
 
 
+def without_crates(text):
+    """Returns an edit's text without the crates that its paths begin with."""
+    return re.sub(r"\b(?:orc_\w+|crate(?:::[a-z_]+)*)::", "", spelled(text))
+
+
 def without_reach(text):
     """Returns a text without the words that say who may call or name what it declares."""
     return re.sub(r"\bpub(?:\(crate\))? ", "", text)
@@ -112,7 +117,8 @@ class Older:
     def line_of(self, edit):
         """Returns what the older commit says of an edit: of the one of that name whose text is the same, by the older names."""
         name, text = self.names.turned_back(edit.file), self.names.turned_back(edit.text)
-        return next((it for it in self.told.get(name, []) + self.told.get(edit.file, []) if spelled(it["text"]) == spelled(text)), None)
+        found = self.told.get(name, []) + self.told.get(edit.file, [])
+        return next((it for it in found if without_crates(it["text"]) == without_crates(text)), None)
 
     def differing(self, edit, line):
         """Returns what isn't word for word as it was, if the record's line is of the older commit, and else that it isn't."""
