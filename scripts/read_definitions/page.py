@@ -1,51 +1,47 @@
-"""docs/DEFINITIONS.md, compared with the sources."""
+"""docs/DEFINITIONS.md and the pages of docs/definitions/, compared with the sources."""
 import os
 import re
-import textwrap
 
+from .order import by_place
+from .quotes import quote
 from .texts import ROOT, text_of
-from .tree import Tree, by_file, counted, lines_of, rests_on
+from .tree import Tree, by_file, lines_of, rests_on
 
 PAGE = "docs/DEFINITIONS.md"
-QUOTE = re.compile(r"^```antt (\S+): (.*)\n((?:(?!```).*\n)*)```$", re.M)
-ROW = re.compile(r"^(\| [^|\n]* \| ([^|\n]*) \|)[^|\n]*\|[^|\n]*\|[^|\n]*\|$", re.M)
+PROOF = "docs/PROOF.md"
+ROW = re.compile(r"^(\| \[([^\]|]*)\]\((definitions/[a-z-]+\.md)\) \| ([^|\n]*) \|)[^|\n]*\|[^|\n]*\|[^|\n]*\|[^|\n]*\|$", re.M)
+SECTION = re.compile(r"^### `(\S+)`\n\n((?:(?!```|###).*\n)*)((?:(?!### `).*\n)*)", re.M)
+NAMED = re.compile(r"`(orc_[a-z_]+::[A-Za-z_:.]+)`")
 MARK = "<!-- scripts/definitions --page --write -->\n"
 
 
-def with_comment(lines, at):
-    """Returns the place of the first of the comment lines above a line, or the line's where it has none."""
-    while at > 1 and lines[at - 2].lstrip().startswith(("--", "infix")):
-        at -= 1
-    return at
+class Part:
+    """A row of the table: what its clauses rest on, and what of this no row above it has, which its page quotes."""
+
+    def __init__(self, tree, row, above):
+        self.row, self.title, self.link, named = row.groups()
+        self.path = f"docs/{self.link}"
+        self.clauses = re.findall(r"`([^`]+)`", named)
+        self.items, self.why = rests_on(tree, self.clauses)
+        self.own = self.items - above
+        self.files = by_place(tree, self.own, self.clauses)
+
+    def counts(self):
+        return f"{self.row} {len(self.items):,} | {lines_of(self.items):,} | {len(by_file(self.items))} | {len(self.own):,} |"
 
 
-def quoted(tree, path, names):
-    """Returns these items' text, as it stands in a file of definitions, and the items; else nothing and why."""
-    if not os.path.isfile(f"{ROOT}/crates/{path}"):
-        return None, f"there is no {path}"
-    file = tree.definitions(f"crates/{path}")
-    unknown = [it for it in names if it not in file.items]
-    if unknown:
-        return None, f"{path} has no {unknown[0]}"
-    blocks, before = [], None
-    for it in (file.items[name] for name in names):
-        start = with_comment(file.lines, min(it.lines))
-        text = file.lines[start - 1 : max(it.lines)]
-        if it.within and it.within != before:
-            first, last = it.within
-            text = file.lines[with_comment(file.lines, first) - 1 : last] + text
-        blocks.append(text)
-        before = it.within
-    return "\n\n".join("\n".join(it) for it in blocks) + "\n", [file.items[name] for name in names]
-
-
-class Page:
-    """The page's text as it stands, what the sources say that it should be, and what was compared."""
+class Pages:
+    """The pages as they stand, what the sources say that they should be, and what was compared."""
 
     def __init__(self, tree):
         self.tree = tree
         self.text = text_of(PAGE)
-        self.quoted = set()
+        self.parts, above = [], set()
+        for row in ROW.finditer(self.text):
+            self.parts.append(Part(tree, row, above))
+            above.update(self.parts[-1].items)
+        self.quoted = above
+        self.should = {}
         # what differs: what the sources say in its place, and what only who writes the page can mend
         self.old = []
         self.wrong = []
@@ -55,79 +51,82 @@ class Page:
         self.compared += 1
         if stands != should:
             self.old.append(what)
-        return should
 
     def hold(self, what, holds):
         self.compared += 1
         if not holds:
             self.wrong.append(what)
-        return holds
-
-    def quote(self, found):
-        text, items = quoted(self.tree, found[1], found[2].split())
-        if not self.hold(f"the quote of {found[2]}: {items}", text is not None):
-            return found[0]
-        self.quoted.update(items)
-        return f"```antt {found[1]}: {found[2]}\n{self.compare(f'the quote of {found[2]}', found[3], text)}```"
 
     def quotes(self):
-        return QUOTE.sub(self.quote, self.text)
+        """Makes each part's page: what was written by hand stays above its file's quote, and on the first page that has one."""
+        stood = {it.path: stands(it.path) for it in self.parts}
+        words = {(path, file): it for path, (_, files) in stood.items() for file, (it, _) in files.items() if it}
+        for part in self.parts:
+            head, files = stood[part.path]
+            made = [head or f"# {part.title}\n"]
+            for path, items in part.files:
+                file = path[len("crates/") :]
+                kept = words.pop((part.path, file), None) or first_of(words, file, self.parts)
+                text = f"```{'antt' if file.endswith('.antt') else 'rust'}\n{quote(self.tree, items)}```\n"
+                self.compare(f"{part.path}: {file}", files.get(file, (None, None))[1], text)
+                made.append(f"### `{file}`\n\n{kept}{text}")
+            self.should[part.path] = "\n".join(made)
+        for (path, file), it in words.items():
+            self.hold(f"{path} has no quote of {file}, above which stood: {it.strip()}", False)
 
-    def sections(self, text):
-        """Puts behind each section's quotes what they rest on, and compares which promises rest on one of them."""
-        return "".join(self.section(it) for it in re.split(r"(?=^### )", text, flags=re.M))
+    def table(self):
+        """Puts each part's counts into the table, and the files and definitions of each page behind the mark."""
+        before, _, after = self.text.partition(MARK)
+        for part in self.parts:
+            self.hold(part.why, not part.why)
+            row = next(it[0] for it in ROW.finditer(before) if it[3] == part.link)
+            self.compare(f"the counts of {part.title}", row, part.counts())
+            before = before.replace(row, part.counts())
+        lists = "".join(self.listed(it) for it in self.parts)
+        self.compare("the lists of files", after, lists)
+        self.should[PAGE] = before + MARK + lists
 
-    def section(self, part):
-        quotes = [quoted(self.tree, it[1], it[2].split()) for it in QUOTE.finditer(part)]
-        items = [it for text, found in quotes if text is not None for it in found]
-        if not items:
-            return part
-        for word in re.findall(r"`([^`]+)`", paragraph("Promises:", part)):
-            below, why = rests_on(self.tree, [word])
-            self.hold(why or f"{word} rests on {items[0].name} or its like", not below.isdisjoint(items))
-        stands = paragraph("Rests on:", part)
-        return part.replace(stands, self.compare(f"what {items[0].name} and its like rest on", stands, self.rests(set(items))))
+    def listed(self, part):
+        lines = [f"\n### {part.title}\n\n| File | Definitions |\n|---|---|\n"]
+        for path, items in part.files:
+            file = path[len("crates/") :]
+            anchor = re.sub(r"[^a-z0-9_-]", "", file.lower())
+            lines.append(f"| [`{file}`]({part.link}#{anchor}) | {', '.join(f'`{it.name}`' for it in items)} |\n")
+        return "".join(lines)
 
-    def rests(self, items):
-        own = {it.name for item in items for it in self.tree.cited(item) - items if not it.is_law}
-        named = ", ".join(f"`{it}`" for it in sorted(own, key=lambda it: (it.lower(), it))) or "nothing else"
-        return wrapped(f"Rests on: {named}. With all below: {counted(self.tree.closure(items))}.")
-
-    def table(self, text):
-        """Puts each promise's counts into the table, and returns the text and all that these rest on."""
-        everything = set()
-
-        def row(found):
-            words = re.findall(r"`([^`]+)`", found[2])
-            if not words:
-                return found[0]
-            items, why = rests_on(self.tree, words)
-            if not self.hold(why, not why):
-                return found[0]
-            everything.update(items)
-            should = f"{found[1]} {len(items):,} | {lines_of(items):,} | {len(by_file(items))} |"
-            return self.compare(f"the counts of {found[2]}", found[0], should)
-
-        return ROW.sub(row, text), everything
-
-    def rest(self, text, everything):
-        """Puts the list of all that isn't quoted behind the mark."""
-        left = everything - self.quoted
-        lines = [f"{counted(left)}, beside the {len(self.quoted):,} that are quoted:\n"]
-        for path, items in by_file(left).items():
-            lines.append(wrapped(f"- `{path}`, {lines_of(items)} lines: " + ", ".join(it.name for it in items), "  "))
-        before, _, after = text.partition(MARK)
-        return before + MARK + self.compare("the list of the rest", after, "\n" + "\n".join(lines) + "\n")
-
-
-def paragraph(word, text):
-    """Returns the paragraph of a text that begins with a word."""
-    found = re.search(rf"^{word}(?:.|\n(?!\n))*", text, re.M)
-    return found[0] if found else word
+    def whole(self):
+        """Compares which definitions the clauses rest on that the page on proofs names, and which pages there are."""
+        for word in sorted(set(NAMED.findall(text_of(PROOF)))):
+            items, why = rests_on(self.tree, [word])
+            self.hold(why or f"{PROOF} names {word}, which rests on what no page quotes: {names(items - self.quoted)}", items <= self.quoted)
+        there = {f"docs/definitions/{it}" for it in os.listdir(f"{ROOT}/docs/definitions")}
+        self.hold(f"pages that no row names: {sorted(there - set(self.should))}", there <= set(self.should))
+        self.hold(f"words that stand for nothing: {sorted(self.tree.unknown)}", not self.tree.unknown)
+        for path, text in self.should.items():
+            for it in too_long(text):
+                self.hold(f"a line of {path} is too long: {it}", False)
 
 
-def wrapped(text, indent=""):
-    return textwrap.fill(text, 100, subsequent_indent=indent, break_long_words=False, break_on_hyphens=False)
+def stands(path):
+    """Returns what a page has above its first quote, and by files the words above each quote and the quote."""
+    if not os.path.isfile(f"{ROOT}/{path}"):
+        return "", {}
+    text = text_of(path)
+    head = text.partition("\n### `")[0]
+    return head, {it[1]: (it[2], it[3].rstrip("\n") + "\n") for it in SECTION.finditer(text)}
+
+
+def first_of(words, file, parts):
+    """Takes the words about a file that stood on a page which quotes nothing of it any more."""
+    for path, named in list(words):
+        page = next(it for it in parts if it.path == path)
+        if named == file and not any(it.path == f"crates/{file}" for it in page.own):
+            return words.pop((path, named))
+    return ""
+
+
+def names(items):
+    return ", ".join(it.name for it in sorted(items))
 
 
 def too_long(text):
@@ -137,19 +136,21 @@ def too_long(text):
 
 
 def compare_page(write):
-    page = Page(Tree())
-    text, everything = page.table(page.sections(page.quotes()))
-    text = page.rest(text, everything)
-    if write:
-        with open(f"{ROOT}/{PAGE}", "w", encoding="utf-8") as file:
-            file.write(text)
-    page.hold(f"words that stand for nothing: {sorted(page.tree.unknown)}", not page.tree.unknown)
-    for it in too_long(text):
-        page.hold(f"a line is too long: {it}", False)
-    for it in page.old:
+    """Compares the pages with the sources, or writes them anew, prints what differs, and returns the exit status."""
+    pages = Pages(Tree())
+    os.makedirs(f"{ROOT}/docs/definitions", exist_ok=True)
+    pages.quotes()
+    pages.table()
+    pages.whole()
+    for path, text in pages.should.items():
+        pages.compare(path, text_of(path) if os.path.isfile(f"{ROOT}/{path}") else "", text)
+        if write:
+            with open(f"{ROOT}/{path}", "w", encoding="utf-8") as file:
+                file.write(text)
+    for it in pages.old:
         print(f"{'written anew' if write else 'differs'}: {it}")
-    for it in page.wrong:
+    for it in pages.wrong:
         print(f"differs: {it}")
-    failed = len(page.wrong) + (0 if write else len(page.old))
-    print(f"{page.compared - failed} passed, {failed} failed")
+    failed = len(pages.wrong) + (0 if write else len(pages.old))
+    print(f"{pages.compared - failed} passed, {failed} failed")
     return 1 if failed else 0

@@ -149,6 +149,7 @@ class Tree:
         end = block_end(text, stop.start()) if stop[0] == "{" else stop.end()
         part = without_bodies(text[start:end])
         first = text.count("\n", 0, start) + 1
+        item.within = value and lines_between(text, model.start(), model.end())
         for at, line in enumerate(part.split("\n"), first):
             if line.strip():
                 item.lines[at] = line
@@ -236,6 +237,7 @@ class Tree:
                 at, stop = start + it.start(), block_end(source.text, start + it.end() - 1)
                 item = self.said[key] = Item(path, f"{owner}.{it[1]}", False)
                 item.lines = dict(enumerate(source.text[at:stop].split("\n"), source.text.count("\n", 0, at) + 1))
+                item.within = lines_between(source.text, start, source.text.index("{", start))
                 head = set(re.findall(r"\w+", source.text[start : source.text.index("{", start)])) - set(source.names)
                 item.cites = self.ghost_names(source, source.text[start + it.end() : stop - 1], head) - {item}
             yield self.said[key]
@@ -251,6 +253,11 @@ class Tree:
                 found.add(it)
                 waiting += self.cited(it)
         return found
+
+
+def lines_between(text, start, end):
+    """Returns the numbers of the lines of a text in which two places stand."""
+    return text.count("\n", 0, start) + 1, text.count("\n", 0, end) + 1
 
 
 def ghost_text(item):
