@@ -4,7 +4,7 @@ import re
 
 from .order import by_place
 from .quotes import quote
-from .texts import ROOT, text_of
+from .texts import ROOT, text_of, too_long
 from .tree import Tree, by_file, lines_of, rests_on
 
 PAGE = "docs/DEFINITIONS.md"
@@ -127,12 +127,6 @@ def first_of(words, file, parts):
 
 def names(items):
     return ", ".join(it.name for it in sorted(items))
-
-
-def too_long(text):
-    """Returns the lines of more than 100 columns, but for quotes and rows of tables."""
-    plain = re.sub(r"^```(?:.|\n)*?^```$", "", text, flags=re.M)
-    return [it for it in plain.split("\n") if len(it) > 100 and not it.startswith("|")]
 
 
 def compare_page(write):

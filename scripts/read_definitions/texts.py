@@ -1,6 +1,7 @@
 """The repository's files, and the words of a text."""
 import os
 import re
+import textwrap
 
 ROOT = os.path.dirname(os.path.dirname(os.path.dirname(os.path.realpath(__file__))))
 # words and brackets of a text of definitions or clauses
@@ -32,3 +33,14 @@ def imports(line):
         if name:
             brought[other.strip() or name] = (module, name)
     return brought
+
+
+def wrapped(text, indent=""):
+    """Returns a text in lines of 100 columns."""
+    return textwrap.fill(text, 100, subsequent_indent=indent, break_long_words=False, break_on_hyphens=False)
+
+
+def too_long(text):
+    """Returns the lines of more than 100 columns, but for quotes and rows of tables."""
+    plain = re.sub(r"^```(?:.|\n)*?^```$", "", text, flags=re.M)
+    return [it for it in plain.split("\n") if len(it) > 100 and not it.startswith("|")]

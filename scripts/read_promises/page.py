@@ -2,8 +2,7 @@
 import os
 import re
 
-from read_definitions.page import too_long, wrapped
-from read_definitions.texts import ROOT, text_of
+from read_definitions.texts import ROOT, text_of, too_long, wrapped
 
 from .comments import fault_of
 from .edits import edits_of, place_edits

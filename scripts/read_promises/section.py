@@ -1,7 +1,7 @@
 """A crate's public calls with their promises, as scripts/promises CRATE prints them; rows and conditions are the page's, too."""
 import re
 
-from read_definitions.page import wrapped
+from read_definitions.texts import wrapped
 
 from .calls import calls_of
 from .comments import premise_and_promise
