@@ -32,9 +32,9 @@ Spells-append u w a b x y p q = (AllFit-append w x y p.0 q.0, digits-append w x 
 pub Spells-parts : (t u w : ℕ) (numbers a b x y : List ℕ) → SpellsPacked t numbers u (a ++ b) → SpellsPacked u a w x → SpellsPacked u b w y → SpellsPacked t numbers w (x ++ y)
 Spells-parts t u w numbers a b x y h p q = let both = Spells-append u w a b x y p q in (both.0, both.1 ∙ h.1)
 
-pub Spells-none : (w count : ℕ) (out : List ℕ) → SpellsPacked 8 [] w (take (count * 0) out)
+pub Spells-none : (u w count : ℕ) (out : List ℕ) → SpellsPacked u [] w (take (count * 0) out)
 unfolding digits
-Spells-none w count out = let z : count * 0 ≡ 0 = omega arith in rw z (tt, refl)
+Spells-none u w count out = let z : count * 0 ≡ 0 = omega arith in rw z (tt, refl)
 
 pub one_set : (out : List ℕ) (a : ℕ) → length out ≡ 1 → set out 0 a ≡ a ∷ []
 one_set [] a e = absurd (omega (arith, e))
@@ -47,10 +47,10 @@ both_set (x ∷ []) a b e = absurd (omega (arith, e))
 both_set (x ∷ y ∷ []) a b e = refl
 both_set (x ∷ y ∷ z ∷ out) a b e = absurd (omega (arith, e))
 
--- the values of some more bytes stand behind those that are there
-pub Spells-more : (w at count end : ℕ) (all text more out values : List ℕ) → at ≤ length out → end ≡ at + length values → all ≡ text ++ more
-    → SpellsPacked 8 text w (take at out) → SpellsPacked 8 more w values → SpellsPacked 8 all w (take end (put_mid at count out values))
-Spells-more w at count end all text more out values le e cut p q = rw (cut, take-put_mid at count out values end e le) (Spells-append 8 w text more (take at out) values p q)
+-- the values of some more numbers stand behind those that are there
+pub Spells-more : (u w at count end : ℕ) (all text more out values : List ℕ) → at ≤ length out → end ≡ at + length values → all ≡ text ++ more
+    → SpellsPacked u text w (take at out) → SpellsPacked u more w values → SpellsPacked u all w (take end (put_mid at count out values))
+Spells-more u w at count end all text more out values le e cut p q = rw (cut, take-put_mid at count out values end e le) (Spells-append u w text more (take at out) values p q)
 
 -- the values of whole bytes, and then those of the bytes behind them
 pub join : (w n k : ℕ) (bytes text rest front back : List ℕ) → AllFit 8 bytes → bytes ≡ text ++ rest → length front + length back ≡ n → k ≡ length back

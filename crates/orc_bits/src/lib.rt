@@ -8,6 +8,7 @@ mod lanes;
 mod packed_digits;
 mod sign_fold;
 mod varint;
+mod whole_bytes;
 mod width;
 
 pub use fault::BitFault;

@@ -8,6 +8,7 @@ ghost use Rattle.orc_bits.specs.declared.fault.BitFault.TheVariants.{Short, OutO
 use crate::byte_parts::unpack_by_bytes;
 use crate::fault::BitFault;
 use crate::lanes::unpack_by_chunks;
+use crate::whole_bytes::{pack_sized, unpack_sized};
 use crate::width::Width;
 
 /// The least number of bytes that holds `n` numbers of `width` digits.
@@ -80,7 +81,8 @@ pub(crate) fn unpack_plain(bytes: &[u8], width: u32, out: &mut [u64])
 
 /// Fills the slice with the numbers at the front of the bytes. Where the width divides 8, whole chunks
 /// of eight bytes go in lanes, the whole bytes behind them one at a time, and the numbers of a last part
-/// of a byte one after the other, as all numbers of another width do.
+/// of a byte one after the other. Numbers of whole bytes are taken by bytes; for each size there is an
+/// arm, so that the compiler unrolls the loop over a number's bytes. Others go one after the other.
 fn unpack_there(bytes: &[u8], width: u32, out: &mut [u64])
     requires some { 1 ≤ width }
     requires most { width ≤ 64 }
@@ -92,6 +94,13 @@ fn unpack_there(bytes: &[u8], width: u32, out: &mut [u64])
         2 => 4,
         4 => 2,
         8 => 1,
+        16 => return unpack_sized(bytes, 2, out),
+        24 => return unpack_sized(bytes, 3, out),
+        32 => return unpack_sized(bytes, 4, out),
+        40 => return unpack_sized(bytes, 5, out),
+        48 => return unpack_sized(bytes, 6, out),
+        56 => return unpack_sized(bytes, 7, out),
+        64 => return unpack_sized(bytes, 8, out),
         _ => return unpack_plain(bytes, width, out),
     };
     let chunks = out.len() / (8 * count);
@@ -194,6 +203,26 @@ fn pack_plain(values: &[u64], width: u32, out: &mut [u8])
     }
 }
 
+/// Fills the slice with the numbers, those of whole bytes by bytes. Spare digits are 0.
+fn pack_there(values: &[u64], width: u32, out: &mut [u8])
+    requires most { width ≤ 64 }
+    requires fit { AllFit width values.now }
+    requires len { length out.old ≡ packed_len width (length values.now) }
+    ensures { IsPackedText out.new width values.now }
+{
+    match width {
+        8 => pack_sized(values, 1, out),
+        16 => pack_sized(values, 2, out),
+        24 => pack_sized(values, 3, out),
+        32 => pack_sized(values, 4, out),
+        40 => pack_sized(values, 5, out),
+        48 => pack_sized(values, 6, out),
+        56 => pack_sized(values, 7, out),
+        64 => pack_sized(values, 8, out),
+        _ => pack_plain(values, width, out),
+    }
+}
+
 /// Appends the numbers packed, each of which fits the width: the least number of bytes that holds
 /// them, with spare digits of 0.
 ///
@@ -218,7 +247,7 @@ pub fn pack(values: &[u64], width: Width, out: &mut Vec<u8>) -> Result<(), BitFa
     if out.resize(start + len, 0).is_err() {
         return Err(BitFault::OutOfMemory);
     }
-    pack_plain(values, digits, &mut out[start..]);
+    pack_there(values, digits, &mut out[start..]);
     Ok(())
 }
 

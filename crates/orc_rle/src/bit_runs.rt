@@ -5,7 +5,7 @@ ghost use Rattle.orc_rle.specs.declared.fault.RunFault.{RunFault};
 ghost use Rattle.orc_rle.specs.declared.fault.RunFault.TheVariants.{OutOfMemory};
 ghost use Rattle.orc_rle.specs.Values.{AppendsBytes};
 ghost use Rattle.orc_rle.specs.Stream.{StopsWithin, Refuses};
-ghost use Rattle.orc_rle.specs.Seeking.{bytes_needed, SeeksBits, BitSeekFails, CountsRuns};
+ghost use Rattle.orc_rle.specs.Seeking.{bytes_needed, SeeksBits, BitSeekFails, CountsRuns, CountsAllRuns};
 ghost use Rattle.orc_rle.specs.ByteRun.{IsByteRun, NoByteRun};
 ghost use Rattle.orc_rle.specs.BitStream.{digit, IsBitStream, IsBitText};
 
@@ -55,17 +55,18 @@ impl BitRuns {
         Ok(values)
     }
 
-    /// Decodes bytes from the position's offset on until `skip` of them are passed, and answers the offset
-    /// after the last run decoded; `run` holds what is left of that one. Where `bits` is above 0 that begins
-    /// with the byte of which so many digits are passed; it may be the first of a run more. What stands
-    /// before the offset has no part in the answer.
+    /// Decodes runs of bytes from `pos.offset` on until `pos.skip` bytes are passed, and answers the offset after the
+    /// last run decoded; `run` holds what is left of that run. If `pos.bits` is above 0, this begins with the byte of
+    /// which so many digits are passed; it may be the first of one run more. Bytes before the offset aren't read.
     ///
-    /// Refusals: `BadPosition` at the offset, where `bits` is above 8, which is tested first, where the offset
-    /// lies past the end, or where the runs from there on hold fewer than `skip` bytes, or no more and `bits`
-    /// is above 0; the fault of bytes that are no run, met on the way, at their place. After a refusal `run` is
-    /// empty. The count of `run` never falls, and rises by `skip` at most, and by one more where `bits` is above
-    /// 0; by one at most where the first run has all these bytes; without a refusal by the number of runs
-    /// from the offset to the answer. It takes no memory.
+    /// Errors: `BadPosition` with the offset, if `pos.bits` is above 8, which is tested first, if the offset is past
+    /// the end, or if the runs from there on have fewer than `pos.skip` bytes, or just as many and `pos.bits` is above
+    /// 0; the error of bytes on the way that are no run, with their place. After an error `run` is empty.
+    ///
+    /// The count of `run` rises by the number of runs from the offset to the answer. After an error it rises by the
+    /// number of runs that follow each other from the offset on, each decoded once; past the end, and if `pos.bits` is
+    /// above 8, by none. It never rises by more than `pos.skip`, and one more if `pos.bits` is above 0; nor by more
+    /// than one if the first run has all these bytes. The call takes no memory.
     pub fn seek(bytes: &[u8], pos: BitPos, run: &mut RunU8) -> Result<usize, RunFault>
         // The returned offset is the end of the last run that is needed to skip `pos.skip` values from `pos.offset` on
         // and, if `pos.bits` is above 0, to reach the next value. `run` contains that run's values after the skipped
@@ -106,6 +107,12 @@ impl BitRuns {
         // to the returned offset.
         ensures counted { IfOk result
             (λ at. CountsRuns IsByteRun bytes.now pos.offset at run.old.count run.new.count) }
+        // If `pos.offset` is past the end of `bytes`, then the count of decoded runs in `run` stays the same.
+        ensures past { length bytes.now < pos.offset → run.new.count ≡ run.old.count }
+        // If the call fails and `pos.bits` is at most 8, then the count of decoded runs in `run` rises by the number of runs that stand one behind
+        // the other from `pos.offset` on: each is decoded once.
+        ensures counted_once { pos.bits ≤ 8 →
+            OnErr result (CountsAllRuns IsByteRun bytes.now pos.offset run.old.count run.new.count) }
         // The count of decoded runs in `run` never falls, whether the call succeeds or fails.
         ensures grows { run.old.count ≤ run.new.count }
         // If `pos.bits` is above 8, then the count of decoded runs in `run` stays the same.
