@@ -126,23 +126,25 @@ fn places_are_sought(rt: HostRuntime) {
     passes(&rt, with_memory!(check_places(&rt, rt.alloc())));
 }
 
-/// Whether there are no places, for this fault or for want of memory.
-fn has_none(places: Result<RunTable, RunFault>, fault: RunFault) -> bool {
+/// Whether there are no places, for this fault. Want of memory is handed on.
+fn has_none(places: Result<RunTable, RunFault>, fault: RunFault) -> Result<bool, RunFault> {
     match places {
-        Ok(_) => false,
-        Err(found) => found == fault || found == RunFault::OutOfMemory,
+        Ok(_) => Ok(false),
+        Err(RunFault::OutOfMemory) => Err(RunFault::OutOfMemory),
+        Err(found) => Ok(found == fault),
     }
 }
 
 /// Streams whose last run ends too soon have no places.
-fn check_short(rt: &impl Abort, alloc: Global) {
+fn check_short(rt: &impl Abort, alloc: Global) -> Result<(), RunFault> {
     let short = run_table::<V1>(alloc, &[0x00, 0x00, 0x02, 0xff], Signed);
-    assert!(rt; has_none(short, RunFault::Short(3)));
+    demand(rt, has_none(short, RunFault::Short(3))?, "no places behind", 3);
     let short = byte_table(alloc, &[0x61, 0x00, 0x00]);
-    assert!(rt; has_none(short, RunFault::Short(2)));
+    demand(rt, has_none(short, RunFault::Short(2))?, "no places behind", 2);
+    Ok(())
 }
 
 #[test]
 fn short_streams(rt: HostRuntime) {
-    check_short(&rt, rt.alloc());
+    passes(&rt, with_memory!(check_short(&rt, rt.alloc())));
 }

@@ -16,6 +16,31 @@ fn ints_are_left<C: RunCodec>(
     C::seek(bytes, sign, pos, &mut run) == wanted && run.values() == left
 }
 
+/// Runs that stand for 1 2 3 4 5 6, and for 0 0 0 2 2 2.
+const EVEN: &'static [u8] = &[0x03, 0x01, 0x02];
+const TWICE: &'static [u8] = &[0x00, 0x00, 0x02, 0x00, 0x00, 0x04];
+
+/// Streams of signed integers in version 1, an offset, how many values are passed, what is answered, and what is left.
+static SOUGHT: [(&'static [u8], usize, usize, Result<usize, RunFault>, &'static [i64]); 6] = [
+    (EVEN, 0, 2, Ok(3), &[3, 4, 5, 6]),
+    (EVEN, 0, 6, Ok(3), &[]),
+    (EVEN, 0, 7, Err(BadPosition(0)), &[]),
+    (EVEN, 3, 0, Ok(3), &[]),
+    (EVEN, 4, 0, Err(BadPosition(4)), &[]),
+    (TWICE, 0, 4, Ok(6), &[2, 2]),
+];
+
+#[test]
+fn rows_of_the_table(rt: HostRuntime) {
+    for (bytes, offset, skip, wanted, left) in &SOUGHT {
+        let pos = Pos {
+            offset: *offset,
+            skip: *skip,
+        };
+        assert!(&rt; ints_are_left::<V1>(bytes, Signed, pos, *wanted, left));
+    }
+}
+
 /// A position at the start.
 fn passing(skip: usize) -> Pos {
     Pos { offset: 0, skip }
@@ -23,10 +48,8 @@ fn passing(skip: usize) -> Pos {
 
 #[test]
 fn integers_are_sought(rt: HostRuntime) {
-    let bytes = [0x00, 0x00, 0x02, 0x00, 0x00, 0x04];
-    assert!(rt; ints_are_left::<V1>(&bytes, Signed, passing(4), Ok(6), &[2, 2]));
-    assert!(rt; ints_are_left::<V1>(&bytes, Signed, passing(7), Err(BadPosition(0)), &[]));
-    assert!(rt; ints_are_left::<V1>(&bytes[..4], Signed, passing(4), Err(Short(3)), &[]));
+    assert!(rt; ints_are_left::<V1>(TWICE, Signed, passing(7), Err(BadPosition(0)), &[]));
+    assert!(rt; ints_are_left::<V1>(&TWICE[..4], Signed, passing(4), Err(Short(3)), &[]));
     let repeated = [0x0a, 0x27, 0x10];
     assert!(rt; ints_are_left::<V2>(&repeated, Unsigned, passing(6), Err(BadPosition(0)), &[]));
 }
