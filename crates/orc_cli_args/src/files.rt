@@ -7,19 +7,31 @@ ghost use Rattle.orc_cli_output.specs.declared.fault.CliFault.TheVariants.{File 
 use orc_cli_output::CliFault;
 use orc_io::FileSource;
 use orc_tail::FileFault;
-use std::fs::{File, OpenOptions};
+use std::fs::{self, File, OpenOptions};
 use std::rt::Files;
 
-/// The file of that path, found now.
+/// Whether the path names a regular file, or a link to one. It is looked at and not opened, since opening a pipe waits
+/// until somebody writes to it.
+fn is_regular<R: Files<File = File>>(rt: &R, path: &str) -> bool {
+    match fs::metadata(rt, path) {
+        Ok(found) => found.is_file(),
+        Err(_) => false,
+    }
+}
+
+/// The file of that path, found now. A folder, a pipe or a device has no places to read from.
 pub fn source_of<'a, R: Files<File = File>>(
     rt: &'a R,
     path: &'a str,
 ) -> Result<FileSource<'a, R>, CliFault>
-    // The source is of the path that was given.
+    // A returned source is of the file with the path `path`.
     ensures path { IfOk result (λ source. source.path.now ≡ path.now) }
-    // The one refusal is SourceFailed.
+    // The only error is `SourceFailed`.
     ensures fault { IfErr result (λ fault. fault ≡ FileFaulted SourceFailed) }
 {
+    if !is_regular(rt, path) {
+        return Err(CliFault::File(FileFault::SourceFailed));
+    }
     match FileSource::open(rt, path) {
         Ok(source) => Ok(source),
         Err(_) => Err(CliFault::File(FileFault::SourceFailed)),

@@ -10,13 +10,16 @@ use Rattle.orc_stats.specs.declared.stat.Body.TheVariants as body
 use Rattle.orc_stats.specs.Statistics.{stat}
 use Rattle.orc_stats.specs.Joining.{has_values}
 
--- A body whose kind has no sum lacks none. A total of children is no sum: where that of a part doesn't fit, that of
--- all doesn't.
+-- Whether the sum of a body is known, if its kind has one. A total of children is no such sum: if that of a part
+-- doesn't fit, that of all doesn't either.
 abbrev pub has_sum : Body → Bool
 has_sum (body.Ints l g s) = is_some s
 has_sum (body.Texts l g s) = is_some s
 has_sum (body.Bins s) = is_some s
-has_sum _ = true
+has_sum body.Plain = true
+has_sum (body.Bools t) = true
+has_sum (body.Dates l g) = true
+has_sum (body.Children l g t) = true
 
 -- what a statistic tells besides its sum
 abbrev pub without_sum : Body → Body
