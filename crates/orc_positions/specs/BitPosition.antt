@@ -7,7 +7,7 @@ use Rattle.orc_rle.specs.Seeking.{SeeksBits}
 use Rattle.orc_rle.specs.Stream.{RunsLeft}
 use Rattle.orc_positions.specs.Position.{Begins, IsWriterPosition}
 
--- the position names boolean n of so many: eight for each byte that is passed, and 0 to 8 more
+-- the position names boolean n of `total` ones: eight for each byte of the runs that is skipped, and 0 to 8 more
 pub record BeginsBits (bytes : List ℕ) (total offset skip bits n : ℕ) : Type 0 where
   pub whole : ℕ
   pub begins : Begins IsByteRun bytes offset skip whole
@@ -15,8 +15,8 @@ pub record BeginsBits (bytes : List ℕ) (total offset skip bits n : ℕ) : Type
   pub number_is : n ≡ 8 * whole + bits
   pub there : n ≤ total
 
--- the digits of the bytes that are left, without those that are passed, are those of the booleans and fewer than
--- eight to spare
+-- the digits of the bytes that are left, without the skipped ones, are those of the booleans and fewer than eight to
+-- spare
 pub record BitsPending (pending rest : List ℕ) (bits : ℕ) (all : List Bool) : Type 0 where
   pub packed : List ℕ
   pub runs : RunsLeft IsByteRun pending rest packed
@@ -24,19 +24,19 @@ pub record BitsPending (pending rest : List ℕ) (bits : ℕ) (all : List Bool) 
   pub few : length spare < 8
   pub digits_are : drop bits (digits 8 packed) ≡ map digit all ++ spare
 
--- a position is found, and from there on come these booleans
+-- the position can be sought, and from there on come these booleans
 pub record BitsGoOn (bytes : List ℕ) (offset skip bits : ℕ) (all : List Bool) : Type 0 where
   pub at : ℕ
   pub left : List ℕ
   pub seeks : SeeksBits bytes offset skip bits at left
   pub goes_on : BitsPending left (drop at bytes) bits all
 
--- the position that a writer gives to boolean n of so many
+-- the position that a writer gives to boolean n of `total` ones
 pub record IsWriterBitPosition (bytes : List ℕ) (total offset skip bits n : ℕ) : Type 0 where
   pub place : IsWriterPosition IsByteRun bytes offset skip (n / 8)
   pub bits_are : bits ≡ n % 8
   pub there : n ≤ total
 
--- the bytes are a stream of so many booleans
+-- the bytes are a stream of `total` booleans
 abbrev pub HasBooleans : List ℕ → ℕ → Type 0
 HasBooleans bytes total = (values : List Bool) × IsBitStream bytes values × (length values ≡ total)

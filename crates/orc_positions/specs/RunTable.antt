@@ -2,17 +2,17 @@
 use Rattle.std.specs.Prelude.{◌≡◌, ℕ, ◌+◌, ◌*◌, ◌<◌, ◌≤◌, List, [], ◌∷◌, length, get_or}
 use Rattle.orc_rle.specs.Stream.{AreRuns}
 
--- where each of the runs begins, and where the last one ends
+-- the offset at which each run begins, and the one at which the last run ends
 abbrev pub offsets_of : {A : Type 0} → ℕ → List (List ℕ × List A) → List ℕ
 offsets_of at [] = at ∷ []
 offsets_of at (run ∷ runs) = at ∷ offsets_of (at + length run.0) runs
 
--- how many values stand before each of these
+-- the number of values before each of these places
 abbrev pub counts_of : {A : Type 0} → ℕ → List (List ℕ × List A) → List ℕ
 counts_of before [] = before ∷ []
 counts_of before (run ∷ runs) = before ∷ counts_of (before + length run.1) runs
 
--- what a clause sees of places
+-- what a clause sees of a table of places
 pub record Places : Type 0 where
   pub offsets : List ℕ
   pub counts : List ℕ
@@ -29,13 +29,14 @@ pub record ArePlaces {A : Type 0} (is_run : List ℕ → List A → Type 0) (byt
   pub offsets_are : places.offsets ≡ offsets_of 0 runs
   pub counts_are : places.counts ≡ counts_of 0 runs
 
--- the offset is one of the places, and the values before it and those that are passed from there make n
+-- the offset is one of the places, and the number of values before it plus `skip` is n
 abbrev pub Names : Places → ℕ → ℕ → ℕ → Type 0
 Names places offset skip n =
     (i : ℕ) × (i < length places.offsets)
     × (get_or places.offsets i 0 ≡ offset)
     × (get_or places.counts i 0 + skip ≡ n)
 
--- the same of booleans: eight for each byte, and 0 to 8 more
+-- the offset is one of the places of byte runs, and n is `bits`, at most 8, plus eight for each byte before the
+-- offset or skipped
 abbrev pub NamesBit : Places → ℕ → ℕ → ℕ → ℕ → Type 0
 NamesBit places offset skip bits n = (whole : ℕ) × (bits ≤ 8) × (n ≡ 8 * whole + bits) × Names places offset skip whole

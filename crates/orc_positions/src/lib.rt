@@ -1,4 +1,5 @@
-//! Positions in streams of runs: what they name, a writer's, going on from one, and looking one up.
+//! Positions in streams of runs: what a position names, the positions that a writer makes, how reading goes on from a
+//! position, and a table in which positions are looked up.
 #![tactic(auto)]
 
 mod laws;

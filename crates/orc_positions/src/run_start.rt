@@ -1,4 +1,4 @@
-//! Where a run begins, as a walk over a stream's runs keeps it, and the position that a writer makes of it.
+//! The start of a run, which a walk over a stream's runs keeps, and the positions that a writer makes of it.
 ghost use Rattle.std.specs.Prelude.{◌≡◌, ◌+◌, ◌-◌, ◌/◌, ◌%◌, ◌^◌, ◌<◌, ◌≤◌, ◌⊎◌, length, IsTrue, ◌↔◌};
 ghost use Rattle.orc_rle.specs.ByteRun.{IsByteRun};
 ghost use Rattle.orc_positions.specs.Position.{IsWriterPosition, HasValues};
@@ -6,24 +6,25 @@ ghost use Rattle.orc_positions.specs.RunStarts.{start_of_stream, IsRunStart};
 
 use orc_rle::{BitPos, ByteRuns, Pos, RunCodec, RunSize, Sign};
 
-/// The start of a run in a stream, or the stream's end, and how far that run reaches. A walk from value to value
-/// keeps it, so that no run is measured again for the values that stand in it.
+/// The start of a run in a stream, or the stream's end, and the size of that run. A walk from value to value keeps
+/// it, so that no run is measured twice.
 #[derive(Clone, Copy, Debug, PartialEq, Eq)]
 pub struct RunStart {
-    /// Its offset in the stream's bytes.
+    /// The offset of the run's start in the stream's bytes.
     pub offset: usize,
-    /// How many values come before it.
+    /// How many values of the stream come before the run.
     pub before: usize,
-    /// How many bytes the run has; 0 at the stream's end, and at its start before a run was measured.
+    /// How many bytes the run has; 0 at the stream's end, and if the run hasn't been measured yet.
     pub len: usize,
-    /// How many values the run has, or 0 as with its bytes.
+    /// How many values the run has; 0 if `len` is 0.
     pub count: usize,
 }
 
 impl RunStart {
-    /// The start of a stream.
+    /// Returns the start of a stream.
     pub fn start() -> RunStart
-        // It is at offset 0, with no value before it and no run known.
+        // The returned start has offset 0, no value before it, and a run of 0 bytes and 0 values, because none has
+        // been measured yet.
         ensures { result ≡ start_of_stream }
     {
         RunStart {
@@ -34,7 +35,7 @@ impl RunStart {
         }
     }
 
-    /// Whether value `n` stands in the run that begins here.
+    /// Returns whether value `n` is one of the run's values.
     fn holds(self, n: usize) -> bool
         requires { self.before ≤ n }
         ensures { IsTrue result ↔ n - self.before < self.count }
@@ -42,7 +43,7 @@ impl RunStart {
         n - self.before < self.count
     }
 
-    /// The end of the run, where the next one begins.
+    /// Returns the end of the run, which is where the next one begins.
     fn end(self) -> RunStart
         requires bytes { self.offset + self.len < 2 ^ 64 }
         requires values { self.before + self.count < 2 ^ 64 }
@@ -58,7 +59,7 @@ impl RunStart {
         }
     }
 
-    /// The same start, with the size of its run.
+    /// Returns the same start with the size of its run.
     fn over(self, size: RunSize) -> RunStart
         ensures start { (result.offset ≡ self.offset) × (result.before ≡ self.before) }
         ensures size { (result.len ≡ size.bytes) × (result.count ≡ size.values) }
@@ -70,11 +71,10 @@ impl RunStart {
         }
     }
 
-    /// The position of value `n`, from the start of its run.
+    /// Returns the position of value `n`, if that is in the run that begins here.
     pub fn position(self, n: usize) -> Pos
         requires { self.before ≤ n }
-        // Where `n` values at most come before the run, the position is at the run's offset and
-        // passes the values from there up to `n`.
+        // The returned position has this start's offset and skips `n` minus `before` values.
         ensures { (result.offset ≡ self.offset) × (result.skip ≡ n - self.before) }
     {
         Pos {
@@ -83,11 +83,11 @@ impl RunStart {
         }
     }
 
-    /// The position of boolean `n`, from the start of the run in which byte `n / 8` stands.
+    /// Returns the position of boolean `n`, if its byte `n / 8` is in the run that begins here.
     pub fn bit_position(self, n: usize) -> BitPos
         requires { self.before ≤ n / 8 }
-        // Where the byte of boolean `n` isn't before the run, the position is at the run's offset
-        // and passes the bytes up to that one, and the booleans before `n` in it.
+        // The returned position has this start's offset, and skips `n / 8` minus `before` bytes and then `n % 8`
+        // booleans.
         ensures { (result.offset ≡ self.offset) × (result.skip ≡ n / 8 - self.before) × (result.bits ≡ n % 8) }
     {
         BitPos {
@@ -98,24 +98,25 @@ impl RunStart {
     }
 }
 
-/// The start of the run in which value `n` of a stream stands, or the stream's end where `n` values are all that it
-/// has. The walk begins where a run begins that isn't behind it: the stream's start, or the run of a value before. It
-/// passes each run once, by its size, and decodes none.
+/// Returns the start of the run that has value `n` of a stream, or the stream's end if the stream has `n` values in
+/// all. The walk begins at `from`, the start of a run that isn't after value `n`. It passes each run once, by its
+/// size, and decodes none.
 ///
-/// The bytes are a stream of `n` values or more, a condition.
+/// `bytes` must be a stream of `n` values or more.
 pub fn run_start_at<C: RunCodec>(bytes: &[u8], sign: Sign, from: RunStart, n: usize) -> RunStart
     requires there { HasValues (C.is_run sign) bytes.now n }
     requires from { IsRunStart (C.is_run sign) bytes.now from }
     requires ahead { from.before ≤ n }
-    // Where the bytes are a stream of `n` values or more, and the walk begins at the start of a run
-    // that isn't behind value `n`, what is answered makes the writer's position of it.
+    // The returned offset, with `n` minus the returned number of values before it as the skipped values, is the
+    // writer's position of value `n`.
     ensures place { IsWriterPosition (C.is_run sign) bytes.now result.offset (n - result.before) n }
-    // It is where a run of the stream begins, or the stream's end; a next walk may begin there. How
-    // long its run is it says rightly, or not at all.
+    // The returned place is the start of a run of `bytes` or their end, the returned number of values come before it,
+    // and the returned size is that of the run there, or 0.
     ensures run_start { IsRunStart (C.is_run sign) bytes.now result }
-    // No more than `n` values come before it.
+    // The returned number of values before the run is at most `n`.
     ensures ahead { result.before ≤ n }
-    // Unless it is at the stream's end, value `n` is one of those that it says its run has.
+    // The returned offset is the length of `bytes`, or value `n` is one of the returned run's values, by the returned
+    // number of them.
     ensures held { (result.offset ≡ length bytes.now) ⊎ (n - result.before < result.count) }
 {
     let mut run_start = from;
@@ -130,20 +131,24 @@ pub fn run_start_at<C: RunCodec>(bytes: &[u8], sign: Sign, from: RunStart, n: us
     run_start
 }
 
-/// The same in a stream of bytes.
+/// Returns the start of the run that has byte `n` of a stream of bytes, or the stream's end if the stream has `n`
+/// bytes in all. The walk begins at `from`, as in `run_start_at`.
+///
+/// `bytes` must be a stream of `n` bytes or more.
 pub fn byte_run_start_at(bytes: &[u8], from: RunStart, n: usize) -> RunStart
     requires there { HasValues IsByteRun bytes.now n }
     requires from { IsRunStart IsByteRun bytes.now from }
     requires ahead { from.before ≤ n }
-    // Where the bytes are a stream of `n` bytes or more, and the walk begins at the start of a run
-    // that isn't behind byte `n`, what is answered makes the writer's position of it.
+    // The returned offset, with `n` minus the returned number of bytes before it as the skipped bytes, is the
+    // writer's position of byte `n`.
     ensures place { IsWriterPosition IsByteRun bytes.now result.offset (n - result.before) n }
-    // It is where a run of the stream begins, or the stream's end; a next walk may begin there. How
-    // long its run is it says rightly, or not at all.
+    // The returned place is the start of a byte run of `bytes` or their end, the returned number of bytes come before
+    // it, and the returned size is that of the run there, or 0.
     ensures run_start { IsRunStart IsByteRun bytes.now result }
-    // No more than `n` bytes come before it.
+    // The returned number of bytes before the run is at most `n`.
     ensures ahead { result.before ≤ n }
-    // Unless it is at the stream's end, byte `n` is one of those that it says its run has.
+    // The returned offset is the length of `bytes`, or byte `n` is one of the returned run's bytes, by the returned
+    // number of them.
     ensures held { (result.offset ≡ length bytes.now) ⊎ (n - result.before < result.count) }
 {
     let mut run_start = from;
