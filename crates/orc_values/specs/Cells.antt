@@ -1,4 +1,4 @@
--- A row, or a part of one, by what it means (ORC specification, "Types" and "Column Encodings").
+-- A row, or a part of one, by its meaning (ORC specification, "Types" and "Column Encodings").
 use Rattle.std.specs.Prelude.{ℕ, ℤ, List, [], ◌∷◌, map, Bool, true, false, if◌then◌else◌}
 
 -- a value of a type that contains no other; texts and bytes are lists of bytes
@@ -9,7 +9,7 @@ pub data Atom : Type 0 where
   text : List ℕ → Atom
   bytes : List ℕ → Atom
 
--- a value, or null in its place, which any part of a row may be
+-- a value, or null; any part of a row may be null
 mutual
   pub data Cell : Type 0 where
     null : Cell
@@ -23,7 +23,7 @@ mutual
     end : Cells
     more : Cell → Cells → Cells
 
-  -- a map's keys, each with its value, in order; a key may stand there more than once, and be null
+  -- a map's keys, each with its value, in order; a key may come more than once, and may be null
   pub data Pairs : Type 0 where
     no_pair : Pairs
     pair : Cell → Cell → Pairs → Pairs
@@ -53,18 +53,18 @@ abbrev pub is_value : Cell → Bool
 is_value null = false
 is_value _ = true
 
--- the elements of a list, the fields of a struct
+-- the elements of a list or the fields of a struct; another cell has none
 abbrev pub parts : Cell → List Cell
 parts (list cs) = list_of_cells cs
 parts (struct cs) = list_of_cells cs
 parts _ = []
 
--- the pairs of a map
+-- the pairs of a map; another cell has none
 abbrev pub pairs_in : Cell → List (Cell × Cell)
 pairs_in (pairs ps) = list_of_pairs ps
 pairs_in _ = []
 
--- the keys of a map, and its values
+-- the keys of a map's pairs, in order
 abbrev pub keys_in : Cell → List Cell
 keys_in c = map (λ p. p.0) (pairs_in c)
 

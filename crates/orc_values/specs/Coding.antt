@@ -1,4 +1,4 @@
--- A code of a schema's tree (for its model): its parts in postfix order, each after what it contains.
+-- A code of a schema's tree (for its model). Its parts come in postfix order, each after the parts that it contains.
 use Rattle.std.specs.Prelude.{ℕ, ◌≡◌, refl, List, [], ◌∷◌, ◌⊎◌}
 use Rattle.std.specs.Coded.{Coded, code_by, coded×, coded⊎, coded_ℕ, coded_list}
 use Rattle.std.proofs.Common.{inl, inr, ap, ◌∙◌}
@@ -8,7 +8,7 @@ use Rattle.orc_values.specs.declared.kind.Scalar.TheVariants as kind
 use Rattle.orc_values.specs.Kinds.{number, scalar_of}
 use Rattle.orc_values.specs.Shapes.{Shape, scalar, list_of, map_of, struct_of, Fields, no_field, field}
 
--- a leaf; a list's or a struct's own bytes; the end of the fields; a field's name; a map's own bytes
+-- a leaf; the kept bytes of a list or a struct; the end of the fields; a field's name; the kept bytes of a map
 abbrev pub Token : Type 0
 Token = (ℕ × List ℕ) ⊎ (List ℕ ⊎ (List ℕ ⊎ (ℕ ⊎ (List ℕ ⊎ List ℕ))))
 
@@ -23,7 +23,7 @@ abbrev mutual
   posts no_field rest = inr (inr (inr (inl 0))) ∷ rest
   posts (field name s fs) rest = posts fs (post s (inr (inr (inr (inr (inl name)))) ∷ rest))
 
--- the kind of a number, or some kind
+-- the kind with a number, or the first kind if no kind has it
 abbrev pub scalar_or_first : ℕ → Scalar
 scalar_or_first n = unwrap_or (scalar_of n) kind.Boolean
 
@@ -47,7 +47,7 @@ abbrev pub below_fields : List Fields → List Fields
 below_fields [] = []
 below_fields (f ∷ fs) = fs
 
--- the tree, from what was read and not yet used
+-- the tree that the rest of a code gives, with the shapes and fields that were read and aren't used yet
 abbrev pub run : List Token → List Shape → List Fields → Shape
 run [] ss fs = top ss
 run (inl p ∷ ts) ss fs = run ts (scalar (scalar_or_first p.0) p.1 ∷ ss) fs
@@ -85,7 +85,7 @@ mutual
       run-posts gs (post s (inr (inr (inr (inr (inl name)))) ∷ rest)) ss fs
       ∙ run-post s (inr (inr (inr (inr (inl name)))) ∷ rest) ss (gs ∷ fs)
 
--- shapes are as good as numbers: each has a code of its own
+-- each shape has a code that gives the shape back
 abbrev pub coded_shape : Coded Shape
 coded_shape =
     code_by (List Token) (coded_list (coded⊎ (coded× coded_ℕ (coded_list coded_ℕ))

@@ -8,12 +8,12 @@ use Rattle.orc_values.specs.Kinds.{is_kind}
 use Rattle.orc_values.specs.Shapes.{Shape, scalar, list_of, map_of, struct_of, Fields, no_field, field}
 use Rattle.orc_values.specs.Cells.{Atom, bool, int, date, text, bytes, Cell, null, leaf, list, struct, pairs, Cells, end, more, Pairs, no_pair, pair}
 
--- a whole number of that many bits, and a sign
+-- whether a number fits a sign and that many bits
 abbrev pub signed_fits : ℕ → ℤ → Bool
 signed_fits bits (pos n) = nat_lt n (2 ^ bits)
 signed_fits bits (negsuc n) = nat_lt n (2 ^ bits)
 
--- a whole number of a column of that kind
+-- whether a number is in the range of a column of that kind
 abbrev pub int_fits : Scalar → ℤ → Bool
 int_fits kind.Byte z = signed_fits 7 z
 int_fits kind.Short z = signed_fits 15 z
@@ -26,7 +26,7 @@ abbrev pub are_bytes : List ℕ → Bool
 are_bytes [] = true
 are_bytes (b ∷ bs) = nat_lt b 256 && are_bytes bs
 
--- a value of a column of that kind; a date is a number of days, of 32 bits; a text is UTF-8
+-- whether a value is one of a column of that kind; a date is a number of days and has 32 bits, and a text is UTF-8
 abbrev pub atom_fits : Scalar → Atom → Bool
 atom_fits k (bool b) = is_kind kind.Boolean k
 atom_fits k (int z) = int_fits k z
@@ -34,8 +34,8 @@ atom_fits k (date z) = is_kind kind.Date k && signed_fits 31 z
 atom_fits k (text s) = is_kind kind.String k && is_utf8 s
 atom_fits k (bytes s) = is_kind kind.Binary k && are_bytes s
 
--- A row has its schema's shape, any part may be null, numbers are in their kind's range, and texts
--- are UTF-8.
+-- whether a row is of its schema: it has the schema's shape, any part may be null, numbers are in the ranges of their
+-- kinds, and texts are UTF-8
 abbrev mutual
   pub fits : Cell → Shape → Bool
   fits null s = true
@@ -67,7 +67,7 @@ abbrev mutual
   each_fits (more c cs) no_field = false
   each_fits (more c cs) (field name s fs) = fits c s && each_fits cs fs
 
-  -- keys of one type, values of another
+  -- the keys are of one type, the values of another
   pub pairs_fit : Pairs → Shape → Shape → Bool
   pairs_fit no_pair s t = true
   pairs_fit (pair k v ps) s t = fits k s && (fits v t && pairs_fit ps s t)

@@ -3,7 +3,7 @@ use Rattle.std.specs.Prelude.{◌≡◌, ℕ, Bool, ◌==◌, if◌then◌else�
 use Rattle.orc_values.specs.declared.kind.Scalar.{Scalar}
 use Rattle.orc_values.specs.declared.kind.Scalar.TheVariants as kind
 
--- of a type that contains no other
+-- the number of a kind that contains no other type
 abbrev pub number : Scalar → ℕ
 number kind.Boolean = 0
 number kind.Byte = 1
@@ -14,7 +14,7 @@ number kind.String = 7
 number kind.Binary = 8
 number kind.Date = 15
 
--- one kind is the other
+-- whether two kinds are the same
 abbrev pub is_kind : Scalar → Scalar → Bool
 is_kind j k = number j == number k
 
@@ -30,7 +30,7 @@ map_number = 11
 abbrev pub struct_number : ℕ
 struct_number = 12
 
--- the kind of a number
+-- the kind with a number, among those that contain no other type
 abbrev pub scalar_of : ℕ → Option Scalar
 scalar_of n =
     if n == 0 then Some kind.Boolean else
@@ -42,6 +42,6 @@ scalar_of n =
     (if n == 8 then Some kind.Binary else
     (if n == 15 then Some kind.Date else None)))))))
 
--- a number of one of the kinds that a column can have
+-- the number is that of one of the kinds that a column can have
 abbrev pub IsKind : ℕ → Type 0
 IsKind n = ((k : Scalar) × (number k ≡ n)) ⊎ ((n ≡ list_number) ⊎ ((n ≡ struct_number) ⊎ (n ≡ map_number)))

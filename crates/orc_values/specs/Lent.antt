@@ -1,9 +1,9 @@
--- The cells of rows that are lent, in a slice (ORC specification, "Column Encodings").
+-- The cells of rows that are lent, as a slice of references (ORC specification, "Column Encodings").
 use Rattle.std.specs.Prelude.{List, map}
 use Rattle.orc_values.specs.Cells.{Cell}
 use Rattle.orc_values.specs.Views.{view}
 use Rattle.orc_values.specs.declared.lent.Lent.{Lent}
 
--- rows that are lent, as cells
+-- lent rows as cells
 abbrev pub lent_cells : List Lent → List Cell
 lent_cells rs = map (λ r. view r.0.now) rs

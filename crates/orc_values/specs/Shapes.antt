@@ -9,7 +9,7 @@ mutual
   pub data Shape : Type 0 where
     scalar : Scalar → List ℕ → Shape
     list_of : Shape → List ℕ → Shape
-    -- keys and values
+    -- the type of the keys, then the type of the values
     map_of : Shape → Shape → List ℕ → Shape
     struct_of : Fields → List ℕ → Shape
 
@@ -64,7 +64,7 @@ abbrev pub names_of : Fields → List (List ℕ)
 names_of no_field = []
 names_of (field name s fs) = name ∷ names_of fs
 
--- where the fields' types begin in pre-order, if the first begins at n
+-- the column numbers at which the fields' types begin in pre-order, if the first begins at n
 abbrev pub starts : Fields → ℕ → List ℕ
 starts no_field n = []
 starts (field name s fs) n = n ∷ starts fs (n + width s)

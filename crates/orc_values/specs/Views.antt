@@ -1,4 +1,4 @@
--- What the program's trees and values stand for (ORC specification, "Types").
+-- The shapes and cells that the program's trees and values mean (ORC specification, "Types").
 use Rattle.std.specs.Prelude.{ℕ, List, [], ◌∷◌, map, Option, Some, None, string_bytes}
 use Rattle.std.specs.Borrow.{Bor}
 use Rattle.std.specs.Cow.{cow_str_bytes, cow_slice_items}
@@ -16,7 +16,7 @@ abbrev pub fields_of : List (List ℕ × Shape) → Fields
 fields_of [] = no_field
 fields_of (f ∷ fs) = field f.0 f.1 (fields_of fs)
 
--- a tree's node as a shape, once those below it are
+-- a tree's node as a shape, from the shapes below it
 abbrev pub shape_step : Tree-F Shape (List ℕ × Shape) → Shape
 shape_step (Tree-F.Scalar k o) = scalar k o.items
 shape_step (Tree-F.List s o) = list_of s.value o.items
@@ -39,12 +39,12 @@ name_and_type = fold-Field Shape (List ℕ × Shape) shape_step field_step
 abbrev pub fields : List Field → Fields
 fields fs = fields_of (map name_and_type fs)
 
--- a cell, and null where there is none
+-- a cell, or null if there is none
 abbrev pub or_null : Option Cell → Cell
 or_null None = null
 or_null (Some c) = c
 
--- a value as a cell, once those in it are
+-- a value as a cell, from the cells in it
 abbrev pub cell_step : Value-F Cell (Cell × Cell) → Cell
 cell_step (Value-F.Bool b) = leaf (bool b)
 cell_step (Value-F.Int n) = leaf (int n)
@@ -63,7 +63,7 @@ pair_step p = (or_null p.key, or_null p.value)
 abbrev pub cell_of_value : Value → Cell
 cell_of_value = fold-Value Cell (Cell × Cell) cell_step pair_step
 
--- a map's key and its value
+-- a map's key and its value as two cells
 abbrev pub paired : MapPair → Cell × Cell
 paired = fold-MapPair Cell (Cell × Cell) cell_step pair_step
 

@@ -1,13 +1,13 @@
-//! The children of a cell: a list's elements, a struct's fields, a map's pairs.
+//! The children of a cell: a list's elements, a struct's fields, and a map's pairs.
 ghost use Rattle.std.specs.Prelude.{◌≡◌, map};
 ghost use Rattle.orc_values.specs.Cells.{parts, pairs_in};
 ghost use Rattle.orc_values.specs.Views.{view, views, paired};
 
 use crate::value::{MapPair, Row, Value};
 
-/// The elements of a list or the fields of a struct, in order, and none of another cell.
+/// Returns the elements of a list or the fields of a struct, in order, and nothing for any other row.
 pub fn parts_of<'r, 'a>(row: &'r Row<'a>) -> &'r [Row<'a>]
-    // A list's elements or a struct's fields are answered, in order, and nothing of another row.
+    // The returned cells are a list's elements or a struct's fields, in order; for any other row there are none.
     ensures { views result.now ≡ parts (view row.now) }
 {
     match row {
@@ -17,9 +17,9 @@ pub fn parts_of<'r, 'a>(row: &'r Row<'a>) -> &'r [Row<'a>]
     }
 }
 
-/// The pairs of a map, in order, and none of another cell.
+/// Returns the pairs of a map, in order, and nothing for any other row.
 pub fn pairs_of<'r, 'a>(row: &'r Row<'a>) -> &'r [MapPair<'a>]
-    // A map's pairs are answered, in order, and nothing of another row.
+    // The returned pairs are a map's pairs, in order; for any other row there are none.
     ensures { map paired result.now ≡ pairs_in (view row.now) }
 {
     match row {

@@ -1,4 +1,4 @@
-//! Whether a value is one of a type.
+//! Tests whether a value is one of a type.
 ghost use Rattle.std.specs.Prelude.{◌≡◌, map};
 ghost use Rattle.orc_values.specs.Cells.{text, bytes, cells_of, pairs_of};
 ghost use Rattle.orc_values.specs.Views.{view, views, paired, cell_of_value, shape, fields as fields_view};
@@ -8,11 +8,11 @@ use crate::kind::Scalar;
 use crate::tree::{Field, Tree};
 use crate::value::{MapPair, Row, Value};
 
-/// Whether the number lies in the range of a column of this kind: 8, 16, 32 or 64 bits, the sign
-/// among them, and never for a kind that has no whole numbers.
+/// Returns whether a number is in the range of a column's kind, which is 8, 16, 32 or 64 bits with the sign. A kind
+/// that has no whole numbers has no range.
 pub fn int_fits(kind: Scalar, number: i64) -> bool
-    // The answer says exactly whether the number is in the kind's range; a kind without whole
-    // numbers has none.
+    // The call returns true if and only if `number` is in the range of `kind`, which has 8, 16, 32 or 64 bits with
+    // the sign for `Byte`, `Short`, `Int` or `Long`; no number is in the range of another kind.
     ensures { result ≡ spec.int_fits kind number }
 {
     match kind {
@@ -24,21 +24,21 @@ pub fn int_fits(kind: Scalar, number: i64) -> bool
     }
 }
 
-/// Whether bytes are a value of the kind. That each is below 256 goes without a test.
+/// Returns whether bytes are a value of the kind. Each byte is below 256, which needs no test.
 fn bytes_fit(kind: Scalar, octets: &[u8]) -> bool
     ensures { result ≡ spec.atom_fits kind (bytes octets.now) }
 {
     matches!(kind, Scalar::Binary)
 }
 
-/// Whether a text is a value of the kind. That it is UTF-8 goes without a test.
+/// Returns whether a text is a value of the kind. Each `str` is UTF-8, which needs no test.
 fn text_fits(kind: Scalar, content: &str) -> bool
     ensures { result ≡ spec.atom_fits kind (text content.now) }
 {
     matches!(kind, Scalar::String)
 }
 
-/// Whether the value is one of a kind that contains no other.
+/// Returns whether a value is one of a kind that contains no other type.
 fn scalar_fits(kind: Scalar, value: &Value<'_>) -> bool
     ensures { result ≡ spec.scalar_fits kind (cell_of_value value.now) }
 {
@@ -46,7 +46,7 @@ fn scalar_fits(kind: Scalar, value: &Value<'_>) -> bool
         Value::Bool(_) => matches!(kind, Scalar::Boolean),
         Value::Int(number) => int_fits(kind, *number),
         Value::Date(day) => {
-            // That it has 32 bits is known of a number that is read.
+            // (a day is an `i32`, so it fits the 32 bits of a date)
             let _day = *day;
             matches!(kind, Scalar::Date)
         }
@@ -56,12 +56,12 @@ fn scalar_fits(kind: Scalar, value: &Value<'_>) -> bool
     }
 }
 
-/// Whether the value is one of the type: it has the type's shape, any part of it may be null, and
-/// numbers are in their kind's range. Each text is UTF-8, as every `str` is.
+/// Returns whether a value is one of a type: it has the type's shape, any part of it may be null, and whole numbers
+/// are in the ranges of their kinds. Each `str` is UTF-8, which needs no test.
 #[cycle(value)]
 pub fn value_fits(tree: &Tree, value: &Value<'_>) -> bool
-    // The answer says exactly whether the value has the type's shape and its numbers their kinds'
-    // range; a text that fits is UTF-8.
+    // The call returns true if and only if `value` has the type's shape, in which any part may be null, and each
+    // whole number in it is in the range of its kind.
     ensures { result ≡ spec.fits (cell_of_value value.now) (shape tree.now) }
 {
     match tree {
@@ -81,7 +81,7 @@ pub fn value_fits(tree: &Tree, value: &Value<'_>) -> bool
     }
 }
 
-/// Whether all the rows are of the type.
+/// Returns whether all the rows are of the type.
 #[cycle(value)]
 fn all_fit(tree: &Tree, rows: &Vec<Row<'_>>) -> bool
     ensures { result ≡ spec.all_fit (cells_of (views rows.now.items)) (shape tree.now) }
@@ -96,7 +96,7 @@ fn all_fit(tree: &Tree, rows: &Vec<Row<'_>>) -> bool
     true
 }
 
-/// Whether the key of a pair is of the type.
+/// Returns whether the key of a pair is of the type.
 #[cycle(value)]
 fn key_fits(tree: &Tree, pair: &MapPair<'_>) -> bool
     ensures { result ≡ spec.fits (view pair.now.key) (shape tree.now) }
@@ -107,7 +107,7 @@ fn key_fits(tree: &Tree, pair: &MapPair<'_>) -> bool
     }
 }
 
-/// Whether the value of a pair is of the type.
+/// Returns whether the value of a pair is of the type.
 #[cycle(value)]
 fn mapped_fits(tree: &Tree, pair: &MapPair<'_>) -> bool
     ensures { result ≡ spec.fits (view pair.now.value) (shape tree.now) }
@@ -118,7 +118,7 @@ fn mapped_fits(tree: &Tree, pair: &MapPair<'_>) -> bool
     }
 }
 
-/// Whether the keys are of one type and the values of another.
+/// Returns whether the keys of the pairs are of one type and the values of another.
 #[cycle(value)]
 fn pairs_fit(key: &Tree, value: &Tree, pairs: &Vec<MapPair<'_>>) -> bool
     ensures { result ≡ spec.pairs_fit (pairs_of (map paired pairs.now.items)) (shape key.now) (shape value.now) }
@@ -134,7 +134,7 @@ fn pairs_fit(key: &Tree, value: &Tree, pairs: &Vec<MapPair<'_>>) -> bool
     true
 }
 
-/// Whether the rows are of the fields, one of each.
+/// Returns whether there is one row for each field, and each row is of its field's type.
 #[cycle(value)]
 fn each_fits(fields: &Vec<Field>, rows: &Vec<Row<'_>>) -> bool
     ensures { result ≡ spec.each_fits (cells_of (views rows.now.items)) (fields_view fields.now.items) }

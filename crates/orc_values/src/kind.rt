@@ -1,4 +1,4 @@
-//! The kinds of types, and their numbers in a list of types.
+//! The kinds of types, with their numbers in a list of types.
 ghost use Rattle.std.specs.Prelude.{◌≡◌};
 ghost use Rattle.orc_values.specs.Kinds.{number as number_of, scalar_of};
 
@@ -25,11 +25,11 @@ pub const MAP: u32 = 11;
 pub const STRUCT: u32 = 12;
 
 impl Scalar {
-    /// The kind that has this number in a list of types, if one of these has it (ORC
-    /// specification, "Types").
+    /// Returns the kind without types inside that has a number in a list of types, or none if no such kind has it
+    /// (ORC specification, "Types").
     pub fn from_number(number: u32) -> Option<Scalar>
-        // Of the kinds that contain no other, the one with this number in a list of types is
-        // answered, or none.
+        // The returned kind is the one with `number` in a list of types, among the kinds that contain no other type;
+        // if none of these has it, the call returns none.
         ensures { result ≡ scalar_of number }
     {
         match number {
@@ -45,9 +45,9 @@ impl Scalar {
         }
     }
 
-    /// The number of this kind in a list of types (ORC specification, "Types").
+    /// Returns the number of this kind in a list of types (ORC specification, "Types").
     pub fn number(self) -> u32
-        // A kind's number is the one that it has in a list of types.
+        // The returned number is the one that the kind has in a list of types.
         ensures { result ≡ number_of self }
     {
         match self {

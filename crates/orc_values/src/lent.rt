@@ -1,4 +1,4 @@
-//! Cells that are lent: rows of another's, in a slice.
+//! Cells that are lent: references to rows, in a slice.
 use crate::value::Row;
 
 /// A cell that is lent, as one element of a slice of cells.

@@ -1,4 +1,4 @@
-//! What a column's types and cells are: trees of types, values and rows, and what a cell says without its children.
+//! Types and cells of columns: trees of types, values and rows, and cells without their children.
 #![tactic(auto)]
 
 mod children;

@@ -1,4 +1,4 @@
-//! What a cell's own column says of it: whether it is null, its value, or how many children it has.
+//! A cell without its children: what the streams of its column store of it, without the columns below.
 ghost use Rattle.std.specs.Prelude.{◌≡◌, not};
 ghost use Rattle.orc_values.specs.Cells.{is_value};
 ghost use Rattle.orc_values.specs.Childless.{childless};
@@ -7,8 +7,8 @@ ghost use Rattle.orc_values.specs.Views.{view};
 
 use crate::value::{Row, Value};
 
-/// A cell as its own column says it, without the columns below (ORC specification, "Column Encodings"): of a list or a
-/// map its size, of a struct that it is there. Texts and byte strings are lent.
+/// A cell without its children, as the streams of its column store it (ORC specification, "Column Encodings"). A list
+/// or a map keeps only its size, a struct only that it is present. Texts and byte strings are borrowed.
 #[derive(Clone, Copy, Debug, PartialEq)]
 pub enum Own<'r> {
     Null,
@@ -23,19 +23,19 @@ pub enum Own<'r> {
 }
 
 impl Own<'_> {
-    /// Whether it is null.
+    /// Returns whether the cell is null.
     pub fn is_null(self) -> bool
-        // The answer says whether the cell is null.
+        // The call returns true if and only if the cell is null.
         ensures { result ≡ not (is_value (own_cell self.entry)) }
     {
         matches!(self, Own::Null)
     }
 }
 
-/// What a row's own column says of it.
+/// Returns a row without its children.
 pub fn own_of<'r>(row: &'r Row<'_>) -> Own<'r>
-    // A row is told without its children: of a list or a map the size, of a struct that it is
-    // there.
+    // The returned cell is the row without its children: a list or a map has only its size, a struct only that it is
+    // present, and null or any other value is whole.
     ensures { own_cell result ≡ childless (view row.now) }
 {
     match row {

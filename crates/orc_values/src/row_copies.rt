@@ -1,4 +1,4 @@
-//! Copies of rows, which borrow nothing.
+//! Copies of rows that borrow nothing.
 ghost use Rattle.std.specs.Prelude.{◌≡◌, IfOk, map};
 ghost use Rattle.orc_values.specs.Views.{view, views, paired, cell_of_value};
 
@@ -6,10 +6,13 @@ use crate::value::{MapPair, Row, Value};
 use std::alloc::{AllocError, Global};
 use std::borrow::{CowSlice, CowStr};
 
-/// The same row, with texts and bytes of its own, so that it outlives what it was borrowed from. Only
-/// want of memory refuses it.
+/// Returns a copy of a row that owns its texts and bytes, so it outlives what the row was borrowed from.
+///
+/// # Errors
+///
+/// `AllocError`, if there is no memory.
 pub fn owned(alloc: Global, row: &Row<'_>) -> Result<Row<'static>, AllocError>
-    // Unless memory is refused, the copy is the same row.
+    // The returned copy is the same row.
     ensures { IfOk result (λ copy. view copy ≡ view row.now) }
 {
     match row {
@@ -18,7 +21,7 @@ pub fn owned(alloc: Global, row: &Row<'_>) -> Result<Row<'static>, AllocError>
     }
 }
 
-/// The same value, with texts and bytes of its own.
+/// Returns a copy of a value that owns its texts and bytes.
 #[cycle(copying)]
 fn owned_value(alloc: Global, value: &Value<'_>) -> Result<Value<'static>, AllocError>
     ensures { IfOk result (λ copy. cell_of_value copy ≡ cell_of_value value.now) }
@@ -38,7 +41,7 @@ fn owned_value(alloc: Global, value: &Value<'_>) -> Result<Value<'static>, Alloc
     }
 }
 
-/// The same rows, with texts and bytes of their own.
+/// Returns copies of rows that own their texts and bytes.
 #[cycle(copying)]
 fn owned_rows(alloc: Global, rows: &Vec<Row<'_>>) -> Result<Vec<Row<'static>>, AllocError>
     ensures { IfOk result (λ copies. views copies.items ≡ views rows.now.items) }
@@ -54,7 +57,7 @@ fn owned_rows(alloc: Global, rows: &Vec<Row<'_>>) -> Result<Vec<Row<'static>>, A
     Ok(copies)
 }
 
-/// The same pairs, with texts and bytes of their own.
+/// Returns copies of pairs that own their texts and bytes.
 #[cycle(copying)]
 fn owned_pairs(alloc: Global, pairs: &Vec<MapPair<'_>>) -> Result<Vec<MapPair<'static>>, AllocError>
     ensures { IfOk result (λ copies. map paired copies.items ≡ map paired pairs.now.items) }

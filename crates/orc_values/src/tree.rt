@@ -1,18 +1,18 @@
-//! Types with all that they contain, and their columns, which are counted in pre-order.
+//! Types with all that they contain. A type's columns are numbered in pre-order.
 ghost use Rattle.std.specs.Prelude.{◌≡◌, ◌<◌, ◌^◌};
 ghost use Rattle.orc_values.specs.Shapes.{width, widths, shape_at, shape_within};
 ghost use Rattle.orc_values.specs.Views.{shape, fields as fields_view};
 
 use crate::kind::Scalar;
 
-/// A type with all that it contains. Each type keeps the bytes of the fields of its message that
-/// have no meaning here, as they stood.
+/// A type with all that it contains. Each type keeps the bytes of those fields of its message that have no meaning
+/// here, unchanged.
 #[cycle(tree)]
 #[derive(Debug, Drop)]
 pub enum Tree {
     Scalar(Scalar, Vec<u8>),
     List(Box<Tree>, Vec<u8>),
-    /// The type of the keys, and that of the values.
+    /// The type of the keys, then the type of the values.
     Map(Box<Tree>, Box<Tree>, Vec<u8>),
     Struct(Vec<Field>, Vec<u8>),
 }
@@ -25,11 +25,11 @@ pub struct Field {
     pub tree: Tree,
 }
 
-/// The number of columns of a type, itself the first.
+/// Returns the number of columns of a type, itself included.
 #[cycle(widths)]
 pub fn width_of(tree: &Tree) -> usize
     requires { width (shape tree.now) < 2 ^ 64 }
-    // Where a type has fewer than 2^64 columns, they are counted, itself the first.
+    // The returned number is the number of columns of the type, itself included.
     ensures { result ≡ width (shape tree.now) }
 {
     match tree {
@@ -40,7 +40,7 @@ pub fn width_of(tree: &Tree) -> usize
     }
 }
 
-/// The number of columns of some fields.
+/// Returns the number of columns of some fields.
 #[cycle(widths)]
 fn widths_of(fields: &[Field]) -> usize
     requires { widths (fields_view fields.now) < 2 ^ 64 }
@@ -52,13 +52,12 @@ fn widths_of(fields: &[Field]) -> usize
     }
 }
 
-/// The type of a column of a type, by the column's number in pre-order.
+/// Returns the type of one of a type's columns, by the column's number in pre-order.
 #[cycle(trees)]
 pub fn tree_at(tree: &Tree, column: usize) -> &Tree
     requires few { width (shape tree.now) < 2 ^ 64 }
     requires there { column < width (shape tree.now) }
-    // Where a type has fewer than 2^64 columns, and this one among them, the type is lent that has
-    // this number in pre-order.
+    // The returned type is that of column `column` of the type's columns in pre-order.
     ensures { shape result.now ≡ shape_at (shape tree.now) column }
 {
     if column == 0 {
@@ -79,7 +78,7 @@ pub fn tree_at(tree: &Tree, column: usize) -> &Tree
     }
 }
 
-/// The type of a column of some fields.
+/// Returns the type of one of the columns of some fields, by the column's number in pre-order.
 #[cycle(trees)]
 fn tree_within(fields: &[Field], column: usize) -> &Tree
     requires few { widths (fields_view fields.now) < 2 ^ 64 }

@@ -1,8 +1,8 @@
 //! Values and rows.
 use std::borrow::{CowSlice, CowStr};
 
-/// A value that is not null. Texts and bytes are borrowed from a file's bytes or owned. A date is a
-/// number of days since 1970-01-01.
+/// A value that is not null. Texts and bytes are borrowed from a file's bytes, or owned. A date is a number of days
+/// since 1970-01-01.
 #[cycle(value)]
 #[derive(Debug, PartialEq, Drop)]
 pub enum Value<'a> {
@@ -16,8 +16,7 @@ pub enum Value<'a> {
     Map(Vec<MapPair<'a>>),
 }
 
-/// A key of a map and its value. Maps keep the order of their pairs; a key may be null, and may stand
-/// there more than once.
+/// A key of a map and its value. Maps keep the order of their pairs; a key may be null, and may come more than once.
 #[cycle(value)]
 #[derive(Debug, PartialEq, Drop)]
 pub struct MapPair<'a> {
