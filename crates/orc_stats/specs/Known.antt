@@ -1,5 +1,6 @@
--- What several statistics know of children (ORC specification, "Column Statistics": each part of CollectionStatistics,
--- field 12 of ColumnStatistics, may be missing, and files of before the field have none; own: what is known together).
+-- What several statistics know of children. Each part of CollectionStatistics, field 12 of ColumnStatistics, may be
+-- missing, and files that are older than the field have none (ORC specification, "Column Statistics"). What they know
+-- together is this project's definition.
 use Rattle.std.specs.Prelude.{◌≡◌, ℕ, if◌then◌else◌, List, [], ◌∷◌, map, filter, Option, Some, None}
 use Rattle.std.specs.List.{list_all, AllZip}
 use Rattle.std.specs.Option.{is_some}
@@ -12,11 +13,11 @@ use Rattle.orc_stats.specs.Statistics.{stat}
 use Rattle.orc_stats.specs.Joining.{least_children, greatest_children, total_children, has_values}
 use Rattle.orc_stats.specs.Whole.{whole}
 
--- a part, where each of several is known
+-- a part, if each of several parts is known
 abbrev pub where_known : {A B : Type 0} → List (Option A) → Option B → Option B
 where_known ps y = if list_all is_some ps then y else None
 
--- of a body, the parts of children that each of several others knows; all other parts stay
+-- a body with only those numbers of children that each of several other bodies knows; all other parts stay
 abbrev pub known_in : List Body → Body → Body
 known_in bs body.Plain = body.Plain
 known_in bs (body.Ints l g s) = body.Ints l g s
@@ -30,25 +31,25 @@ known_in bs (body.Children l g t) =
     (where_known (map greatest_children bs) g)
     (where_known (map total_children bs) t)
 
--- of a statistic, what one such body knows
+-- a statistic with only those numbers of children that a body knows
 abbrev pub known_as : Body → Stat → Stat
 known_as o s = record s { body = known_in (o ∷ []) s.body }
 
--- The first says what the second says, but for parts of children that the first doesn't know.
+-- The first statistic is the same as the second, except that numbers of children may be unknown in the first.
 abbrev pub Agrees : Stat → Stat → Type 0
 Agrees x y = x ≡ known_as x.body y
 
--- a part that isn't known, or is the right one
+-- a part that is unknown, or is the right one
 abbrev pub IsPart : Option ℕ → Option ℕ → Type 0
 IsPart None right = Unit {0}
 IsPart (Some n) right = Some n ≡ right
 
--- the body that is told, if one is; one of no children knows nothing of them
+-- the body of the stored statistic; if there is none, a body that knows nothing of children
 abbrev pub told_body : Option Stat → Body
 told_body None = body.Plain
 told_body (Some s) = s.body
 
--- a part of a column, as a stripe is: what is told of it, if anything, and its cells
+-- a part of a column, such as that in one stripe: the stored statistic of it, if there is one, and its cells
 pub record Part : Type 0 where
   pub told : Option Stat
   pub cells : List Cell
@@ -57,26 +58,27 @@ pub record Part : Type 0 where
 abbrev pub part_cells : List Part → List (List Cell)
 part_cells parts = map (λ (part : Part). part.cells) parts
 
--- each part's cells with what is told of it; where fewer are told than there are parts, nothing is told of the last ones
+-- each part's cells with its stored statistic; if there are fewer of these than parts, the last parts have none
 abbrev pub parts_of : List (Option Stat) → List (List Cell) → List Part
 parts_of told [] = []
 parts_of [] (p ∷ ps) = record { told = None; cells = p } ∷ parts_of [] ps
 parts_of (t ∷ ts) (p ∷ ps) = record { told = t; cells = p } ∷ parts_of ts ps
 
--- what is told of the parts that have a value
+-- the stored bodies of those parts that have a value
 abbrev pub told_of : StatKind → List Part → List Body
 told_of k parts =
     map (λ (part : Part). told_body part.told) (filter (λ (part : Part). has_values (stat k part.cells)) parts)
 
--- the statistic of all the cells, as `whole`, but of children no more than is told of each part that has a value
+-- the statistic of all the cells, as `whole`, but with only those numbers of children that the stored statistic of
+-- each part with a value knows
 abbrev pub known_whole : StatKind → List Part → Stat
 known_whole k parts =
     let all = whole k (part_cells parts) in record all { body = known_in (told_of k parts) all.body }
 
--- the parts' statistics, each with no more of children than is told of it
+-- the parts' statistics, each with only those numbers of children that its stored statistic knows
 abbrev pub known_stats : StatKind → List Part → List Stat
 known_stats k parts = map (λ (part : Part). known_as (told_body part.told) (stat k part.cells)) parts
 
--- each statistic agrees with that of its part
+-- each statistic agrees with that of the cells of its part
 abbrev pub AllAgree : StatKind → List Stat → List (List Cell) → Type 0
 AllAgree k = AllZip (λ (s : Stat) (part : List Cell). Agrees s (stat k part))

@@ -1,10 +1,11 @@
--- What the words of a statistic mean: the least value, the exact total and the count of true (own).
+-- What the parts of a statistic mean: the least value, the exact total and the number of true values (this
+-- project's).
 use Rattle.std.specs.Prelude.{◌≡◌, ℕ, suc, ℤ, pos, ◌+ℤ◌, Bool, true, false, List, [], ◌∷◌}
 use Rattle.std.specs.List.{AllByRecursion, Contains}
 use Rattle.std.specs.Ordering.{is_gt}
 use Rattle.std.specs.declared.cmp.Ordering.{Ordering}
 
--- one of the values, and none is lower in the order
+-- one of the values, and no value is lower in the order
 abbrev pub IsLowest : {A : Type 0} → (A → A → Ordering) → List A → A → Type 0
 IsLowest cmp xs x = Contains xs x × AllByRecursion (λ y. is_gt (cmp x y) ≡ false) xs
 

@@ -11,39 +11,39 @@ use Rattle.orc_stats.specs.Seen.{both, seen_of, known_of, value_seen}
 use Rattle.orc_stats.specs.Orders.{both_orderly, pairs_orderly, pair_is, int_sums, nat_sums, lower_ints, higher_ints, lower_texts, higher_texts, lower_nats, higher_nats, IsOrderly}
 use Rattle.orc_stats.specs.Tallies.{Joins, Measure}
 
--- parts of one word
+-- how two seen parts join, by the operation on two known ones
 abbrev pub seen_joins : {A : Type 0} (op : A → A → A) → IsOrderly op → Joins (Seen A)
 seen_joins op o = record { none = Nothing; join = both op; unit = λ p. refl; orderly = both_orderly op o }
 
--- the least integer, joined
+-- the least integer of both
 abbrev pub least_ints : Joins (Seen ℤ)
 least_ints = seen_joins (lower int_cmp) lower_ints
 
--- the greatest integer, joined
+-- the greatest integer of both
 abbrev pub greatest_ints : Joins (Seen ℤ)
 greatest_ints = seen_joins (lower (flip_args int_cmp)) higher_ints
 
--- the least string, joined
+-- the least text of both
 abbrev pub least_texts : Joins (Seen (List ℕ))
 least_texts = seen_joins (lower text_cmp) lower_texts
 
--- the greatest string, joined
+-- the greatest text of both
 abbrev pub greatest_texts : Joins (Seen (List ℕ))
 greatest_texts = seen_joins (lower (flip_args text_cmp)) higher_texts
 
--- the least count, joined
+-- the least number of both
 abbrev pub least_nats : Joins (Seen ℕ)
 least_nats = seen_joins (lower nat_cmp) lower_nats
 
--- the greatest count, joined
+-- the greatest number of both
 abbrev pub greatest_nats : Joins (Seen ℕ)
 greatest_nats = seen_joins (lower (flip_args nat_cmp)) higher_nats
 
--- sums of integers, joined
+-- the sum of integers of both
 abbrev pub int_totals : Joins (Seen ℤ)
 int_totals = seen_joins ◌+ℤ◌ int_sums
 
--- sums of counts, joined
+-- the sum of numbers of both
 abbrev pub nat_totals : Joins (Seen ℕ)
 nat_totals = seen_joins ◌+◌ nat_sums
 
@@ -57,7 +57,7 @@ a and b = record {
   orderly = pairs_orderly a.orderly b.orderly;
 }
 
--- BYTE, SHORT, INT and LONG: least, greatest, sum
+-- BYTE, SHORT, INT and LONG: the least, the greatest and the sum
 abbrev pub ints : Measure (Seen ℤ × (Seen ℤ × Seen ℤ))
 ints = record {
   joins = least_ints and greatest_ints and int_totals;
@@ -67,7 +67,7 @@ ints = record {
   body = λ p. body.Ints (known_of p.0) (known_of p.1.0) (option_and_then in_64 (known_of p.1.1));
 }
 
--- DATE: least, greatest
+-- DATE: the least and the greatest
 abbrev pub dates : Measure (Seen ℤ × Seen ℤ)
 dates = record {
   joins = least_ints and greatest_ints;
@@ -77,7 +77,7 @@ dates = record {
   body = λ p. body.Dates (known_of p.0) (known_of p.1);
 }
 
--- STRING: least, greatest, the sum of lengths
+-- STRING: the least, the greatest and the sum of the lengths
 abbrev pub texts : Measure (Seen (List ℕ) × (Seen (List ℕ) × Seen ℤ))
 texts = record {
   joins = least_texts and greatest_texts and int_totals;
@@ -98,7 +98,7 @@ bools = record {
   body = λ p. body.Bools (option_and_then in_limit (known_of p));
 }
 
--- BINARY: the sum of lengths
+-- BINARY: the sum of the lengths
 abbrev pub bins : Measure (Seen ℤ)
 bins = record {
   joins = int_totals;
@@ -108,7 +108,7 @@ bins = record {
   body = λ p. body.Bins (option_and_then in_64 (known_of p));
 }
 
--- LIST and MAP: least, greatest and total of the numbers of children
+-- LIST and MAP: the least, the greatest and the total of the numbers of children
 abbrev pub child_numbers : Measure (Seen ℕ × (Seen ℕ × Seen ℕ))
 child_numbers = record {
   joins = least_nats and greatest_nats and nat_totals;
@@ -118,7 +118,7 @@ child_numbers = record {
   body = λ p. body.Children (known_of p.0) (known_of p.1.0) (option_and_then in_u64 (known_of p.1.1));
 }
 
--- STRUCT: nothing
+-- STRUCT: only what every column has
 abbrev pub no_measure : Measure (Unit {0})
 no_measure = record {
   joins = record {

@@ -1,4 +1,4 @@
--- Words that put two together, in any order and grouping.
+-- Operations that give the same result in any order and grouping.
 use Rattle.std.specs.Prelude.{◌≡◌, ◌+◌, ◌+ℤ◌, Bool, true, false, if◌then◌else◌, Option, Some, None, refl}
 use Rattle.std.specs.Ordering.{is_gt, int_cmp, nat_cmp, flip_args, ordering_reverse}
 use Rattle.std.specs.declared.cmp.Ordering.{Ordering}
@@ -14,7 +14,7 @@ use Rattle.orc_stats.specs.Seen.{both}
 use Rattle.orc_stats.specs.Statistics.{lower, text_cmp}
 use Rattle.orc_stats.specs.Joining.{or_known}
 
--- neither order nor grouping changes what comes out
+-- the result depends neither on order nor on grouping
 pub record IsOrderly {A : Type 0} (op : A → A → A) : Type 0 where
   pub comm : (x y : A) → op x y ≡ op y x
   pub assoc : (x y z : A) → op (op x y) z ≡ op x (op y z)
@@ -90,7 +90,7 @@ module _ {P Q : Type 0} {f : P → P → P} {g : Q → Q → Q} where
     assoc = λ x y z. pair_is (a.assoc x.0 y.0 z.0) (b.assoc x.1 y.1 z.1);
   }
 
--- the lower of two in a total order in which no two differ and tie
+-- the lower of two, in a total order in which only equal values tie
 module _ {A : Type 0} (cmp : A → A → Ordering) (total : IsTotalOrder cmp) (same : IsAntisymmetric cmp) where
   lower_swaps : (x y : A) (o p : Ordering)
       → cmp x y ≡ o
@@ -110,7 +110,7 @@ module _ {A : Type 0} (cmp : A → A → Ordering) (total : IsTotalOrder cmp) (s
   lower_comm : (x y : A) → lower cmp x y ≡ lower cmp y x
   lower_comm x y = lower_swaps x y (cmp x y) (cmp y x) refl refl (total.antisymm x y)
 
-  -- above what is above
+  -- the order of two, seen from the other side
   reversed : (x y : A) (o : Ordering) → cmp x y ≡ o → cmp y x ≡ ordering_reverse o
   reversed x y o e = total.antisymm y x ∙ ap ordering_reverse e
 

@@ -13,12 +13,12 @@ use Rattle.orc_stats.specs.declared.stat.Stat.{Stat}
 use Rattle.orc_stats.specs.declared.stat.Body.{Body}
 use Rattle.orc_stats.specs.declared.stat.Body.TheVariants as body
 
--- a value put together with what there is of others
+-- a value combined with the result for the rest, if there is one
 abbrev pub onto : {A : Type 0} → (A → A → A) → A → Option A → A
 onto op x None = x
 onto op x (Some y) = op x y
 
--- a list's values put together, if it has one
+-- the values of a list combined, if it has any
 abbrev pub reduce : {A : Type 0} → (A → A → A) → List A → Option A
 reduce op [] = None
 reduce op (x ∷ xs) = Some (onto op x (reduce op xs))
@@ -31,11 +31,11 @@ lower cmp x y = if is_gt (cmp x y) then y else x
 abbrev pub least : {A : Type 0} → (A → A → Ordering) → List A → Option A
 least cmp xs = reduce (lower cmp) xs
 
--- the greatest of a list, if it has any
+-- the greatest value of a list, in an order
 abbrev pub greatest : {A : Type 0} → (A → A → Ordering) → List A → Option A
 greatest cmp xs = least (flip_args cmp) xs
 
--- texts by their bytes, as numbers without a sign
+-- texts in the order of their bytes, as unsigned numbers
 abbrev pub text_cmp : List ℕ → List ℕ → Ordering
 text_cmp = slice_cmp nat_cmp
 
@@ -43,19 +43,19 @@ text_cmp = slice_cmp nat_cmp
 abbrev pub exact_total : List ℤ → Option ℤ
 exact_total zs = reduce ◌+ℤ◌ zs
 
--- a number where it fits 64 bits, the sign among them
+-- a number, if it fits 64 bits with the sign
 abbrev pub in_64 : ℤ → Option ℤ
 in_64 z = if signed_fits 63 z then Some z else None
 
--- the exact total, where there is a number and the total fits
+-- the exact total, if there is a number and the total fits
 abbrev pub total : List ℤ → Option ℤ
 total zs = option_and_then in_64 (exact_total zs)
 
--- a number where it has 64 bits
+-- a number, if it has at most 64 bits
 abbrev pub in_u64 : ℕ → Option ℕ
 in_u64 n = if nat_lt n (2 ^ 64) then Some n else None
 
--- the exact total of numbers of children, where there is one and it has 64 bits
+-- the exact total of numbers of children, if there is one and the total has at most 64 bits
 abbrev pub children_total : List ℕ → Option ℕ
 children_total ns = option_and_then in_u64 (reduce ◌+◌ ns)
 
@@ -63,12 +63,12 @@ children_total ns = option_and_then in_u64 (reduce ◌+◌ ns)
 abbrev pub lengths : List (List ℕ) → List ℤ
 lengths ts = map (λ t. pos (length t)) ts
 
--- one for true
+-- 1 for true, 0 for false
 abbrev pub bit : Bool → ℕ
 bit true = 1
 bit false = 0
 
--- the values of a column of one kind, in order
+-- the integer that a cell is, if it is one
 abbrev pub int_of : Cell → Option ℤ
 int_of (leaf (int z)) = Some z
 int_of _ = None
@@ -83,7 +83,7 @@ abbrev pub bool_of : Cell → Option Bool
 bool_of (leaf (bool b)) = Some b
 bool_of _ = None
 
--- the string that a cell is, if it is one
+-- the text that a cell is, if it is one
 abbrev pub text_of : Cell → Option (List ℕ)
 text_of (leaf (text s)) = Some s
 text_of _ = None
@@ -93,13 +93,13 @@ abbrev pub bytes_of : Cell → Option (List ℕ)
 bytes_of (leaf (bytes s)) = Some s
 bytes_of _ = None
 
--- how many children a list has, or pairs a map; one that is null has no such number
+-- how many elements a list has, or pairs a map; any other cell has no such number
 abbrev pub children_of : Cell → Option ℕ
 children_of (list cs) = Some (length (list_of_cells cs))
 children_of (pairs ps) = Some (length (list_of_pairs ps))
 children_of _ = None
 
--- what a statistic of this kind tells of cells
+-- the body of the statistic of cells, for a kind
 abbrev pub values_body : StatKind → List Cell → Body
 values_body kind.Plain cells = body.Plain
 values_body kind.Ints cells =
@@ -116,6 +116,6 @@ values_body kind.Children cells =
 abbrev pub has_null : List Cell → Bool
 has_null cells = list_any (λ c. not (is_value c)) cells
 
--- of cells of a column of that kind
+-- the statistic of the cells of a column of a kind
 abbrev pub stat : StatKind → List Cell → Stat
 stat k cells = record { count = length (values cells); nulls = Some (has_null cells); body = values_body k cells }

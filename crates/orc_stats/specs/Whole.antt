@@ -1,4 +1,4 @@
--- The statistic of a column that was counted part by part, as a file's is by stripes (own).
+-- The statistic of a column that was counted part by part, as that of a file is by stripes (this project's).
 use Rattle.std.specs.Prelude.{Bool, true, not, ◌||◌, if◌then◌else◌, List, None}
 use Rattle.std.specs.List.{flat_map, list_all}
 use Rattle.std.specs.Option.{is_some}
@@ -10,8 +10,8 @@ use Rattle.orc_stats.specs.declared.stat.Body.TheVariants as body
 use Rattle.orc_stats.specs.Statistics.{stat}
 use Rattle.orc_stats.specs.Joining.{has_values}
 
--- Whether the sum of a body is known, if its kind has one. A total of children is no such sum: if that of a part
--- doesn't fit, that of all doesn't either.
+-- Whether a body has its sum; one of a kind without sums counts as having it. A total of children is no sum in this
+-- sense: if that of a part doesn't fit, that of the whole doesn't.
 abbrev pub has_sum : Body → Bool
 has_sum (body.Ints l g s) = is_some s
 has_sum (body.Texts l g s) = is_some s
@@ -21,7 +21,7 @@ has_sum (body.Bools t) = true
 has_sum (body.Dates l g) = true
 has_sum (body.Children l g t) = true
 
--- what a statistic tells besides its sum
+-- a body without its sum
 abbrev pub without_sum : Body → Body
 without_sum body.Plain = body.Plain
 without_sum (body.Ints l g s) = body.Ints l g None
@@ -31,11 +31,11 @@ without_sum (body.Texts l g s) = body.Texts l g None
 without_sum (body.Bins s) = body.Bins None
 without_sum (body.Children l g t) = body.Children l g t
 
--- the total of the values fits 64 bits, if there are any
+-- whether a statistic with values has its sum
 abbrev pub keeps_sum : Stat → Bool
 keeps_sum s = not (has_values s) || has_sum s.body
 
--- the statistic of all the cells, but that the sum is not known where the total of one part doesn't fit
+-- the statistic of all the cells, except that the sum is unknown if the total of some part doesn't fit
 abbrev pub whole : StatKind → List (List Cell) → Stat
 whole k parts =
     let all = stat k (flat_map (λ p. p) parts) in

@@ -1,4 +1,4 @@
-//! Whether a statistic that is told of cells is theirs. Of children it may know less.
+//! Tests whether a stored statistic of cells is right. It may lack numbers of children.
 ghost use Rattle.std.specs.Prelude.{◌≡◌, ◌∷◌, []};
 ghost use Rattle.std.specs.Bool.{OnTrue, OnFalse};
 ghost use Rattle.orc_stats.specs.Joining.{least_children, greatest_children, total_children};
@@ -11,7 +11,7 @@ use crate::records::{bins_body, bools_body, children_body, dates_body, ints_body
 use crate::stat::{Body, Stat};
 use orc_wire::{Bytes, ColumnStats, StringStatistics};
 
-/// Whether two texts are one, or neither is known.
+/// Returns whether two texts are the same, or both are unknown.
 fn same_text(told: &Option<Bytes>, right: &Option<Bytes>) -> bool
     ensures yes { OnTrue result (told.now ≡ right.now) }
     ensures no { OnFalse result (told.now ≡ right.now → ⊥) }
@@ -23,7 +23,7 @@ fn same_text(told: &Option<Bytes>, right: &Option<Bytes>) -> bool
     }
 }
 
-/// Whether a part of children is the right one, or isn't known.
+/// Returns whether a number of children is the right one or is unknown.
 fn is_part(told: Option<u64>, right: Option<u64>) -> bool
     ensures yes { OnTrue result (told ≡ where_known (told ∷ []) right) }
     ensures no { OnFalse result (told ≡ where_known (told ∷ []) right → ⊥) }
@@ -34,7 +34,7 @@ fn is_part(told: Option<u64>, right: Option<u64>) -> bool
     }
 }
 
-/// Whether what is told of the values is right.
+/// Returns whether the parts of a body are right; numbers of children may be unknown.
 fn is_body(told: &Body, right: &Body) -> bool
     ensures yes { OnTrue result (told.now ≡ known_in (told.now ∷ []) right.now) }
     ensures no { OnFalse result (told.now ≡ known_in (told.now ∷ []) right.now → ⊥) }
@@ -96,7 +96,7 @@ fn is_body(told: &Body, right: &Body) -> bool
     }
 }
 
-/// Whether what a record tells of texts is right. It copies none.
+/// Returns whether a record of texts stores the right parts. It copies no text.
 fn are_texts(told: &Option<StringStatistics>, right: &Body) -> bool
     ensures yes { OnTrue result (texts_body told.now ≡ known_in (texts_body told.now ∷ []) right.now) }
     ensures no { OnFalse result (texts_body told.now ≡ known_in (texts_body told.now ∷ []) right.now → ⊥) }
@@ -126,7 +126,7 @@ fn are_texts(told: &Option<StringStatistics>, right: &Body) -> bool
     }
 }
 
-/// Whether what a message tells of the values of a column of a kind is right.
+/// Returns whether a message stores the right parts of the values of a column of a kind.
 fn values_tell(kind: StatKind, message: &ColumnStats, right: &Body) -> bool
     ensures yes { OnTrue result (body_read kind message.now ≡ known_in (body_read kind message.now ∷ []) right.now) }
     ensures no { OnFalse result
@@ -143,11 +143,12 @@ fn values_tell(kind: StatKind, message: &ColumnStats, right: &Body) -> bool
     }
 }
 
-/// Whether a message says of a column of a kind what the right statistic says, but for parts of children
-/// that it doesn't know: as the statistic that `Stat::read` makes of it would. It takes no memory.
+/// Returns whether a message stores the same as the right statistic of a column of a kind; numbers of children may be
+/// missing. It answers as `Stat::agrees` does for the statistic that `Stat::read` makes of the message, and takes no
+/// memory.
 pub fn tells(kind: StatKind, message: &ColumnStats, right: &Stat) -> bool
-    // It is true exactly where the statistic that the message is says what the right one says, but
-    // for parts of children that it doesn't know.
+    // The call returns true if and only if the statistic of kind `kind` that `message` stores has the count, the null
+    // flag and the parts of `right`, except that numbers of children may be unknown in it.
     ensures yes { OnTrue result (Agrees (stat_read kind message.now) right.now) }
     ensures no { OnFalse result (Agrees (stat_read kind message.now) right.now → ⊥) }
 {
@@ -160,7 +161,7 @@ pub fn tells(kind: StatKind, message: &ColumnStats, right: &Stat) -> bool
     values_tell(kind, message, &right.body)
 }
 
-/// A part of children, where another is known.
+/// Returns a part of children, if another one is known.
 fn kept(told: Option<u64>, part: Option<u64>) -> Option<u64>
     ensures { result ≡ where_known (told ∷ []) part }
 {
@@ -170,7 +171,7 @@ fn kept(told: Option<u64>, part: Option<u64>) -> Option<u64>
     }
 }
 
-/// The parts of children that a body knows: the least, the greatest and the total.
+/// Returns the numbers of children that a body knows: the least, the greatest and the total.
 fn children_in(body: &Body) -> (Option<u64>, Option<u64>, Option<u64>)
     ensures least { result.0 ≡ least_children body.now }
     ensures greatest { result.1 ≡ greatest_children body.now }
@@ -187,20 +188,20 @@ fn children_in(body: &Body) -> (Option<u64>, Option<u64>, Option<u64>)
 }
 
 impl Stat {
-    /// Whether this says what the right statistic says, but for parts of children that this doesn't
-    /// know. It has one direction.
+    /// Returns whether this statistic is the same as the right one, except that numbers of children may be unknown in
+    /// this one. The opposite direction isn't tested.
     pub fn agrees(&self, right: &Stat) -> bool
-        // It is true exactly where this says what the right one says, but for parts of children
-        // that this doesn't know.
+        // The call returns true if and only if this statistic has the count, the null flag and the parts of `right`,
+        // except that numbers of children may be unknown in this one.
         ensures yes { OnTrue result (Agrees self.now right.now) }
         ensures no { OnFalse result (Agrees self.now right.now → ⊥) }
     {
         self.count == right.count && self.nulls == right.nulls && is_body(&self.body, &right.body)
     }
 
-    /// Forgets the parts of children that a body doesn't know.
+    /// Forgets the numbers of children that another body doesn't know.
     pub fn keep_known(&mut self, told: &Body)
-        // The parts of children that the body doesn't know are forgotten; all else stays.
+        // Each number of children that `told` doesn't know becomes unknown; all else of the statistic stays.
         ensures { self.new ≡ known_as told.now self.old }
     {
         if let Body::Children {

@@ -1,4 +1,4 @@
-//! The statistic of cells, and the one that several are joined to.
+//! The statistic of cells, and the statistic that several statistics join to.
 ghost use Rattle.std.specs.Prelude.{◌≡◌, ◌≤◌, ◌^◌, IfOk, IfErr, OnOk, All, length, sum_by, true};
 ghost use Rattle.orc_values.specs.Lent.{lent_cells};
 ghost use Rattle.orc_stats.specs.declared.kind.StatKind.TheVariants.{Texts as text_kind};
@@ -17,11 +17,13 @@ use crate::tally::Tally;
 use orc_values::Lent;
 use std::alloc::Global;
 
-/// The statistic of a column's cells (ORC specification, "Column Statistics"). Of lists or maps it
-/// has the least and the greatest number of elements, or of pairs, of those that aren't null, and
-/// the exact total where it is below 2^64.
+/// Returns the statistic of a column's cells (ORC specification, "Column Statistics"). For lists and maps it has the
+/// least and the greatest number of elements or pairs of those that aren't null, and the exact total if it is below
+/// 2^64.
 ///
-/// Refusal: `OutOfMemory`, which comes for texts alone.
+/// # Errors
+///
+/// `OutOfMemory`, which comes only for texts.
 pub fn of_cells(alloc: Global, kind: StatKind, cells: &[Lent<'_, '_>]) -> Result<Stat, StatFault>
     requires kind { All (λ c. is_of kind c ≡ true) (lent_cells cells.now) }
     requires most { length cells.now ≤ 2 ^ 62 }
@@ -45,10 +47,12 @@ pub fn of_cells(alloc: Global, kind: StatKind, cells: &[Lent<'_, '_>]) -> Result
     }
 }
 
-/// The statistic of all that several statistics of columns of one kind are of.
+/// Returns the statistic that several statistics of columns of one kind join to.
 ///
-/// Refusals: `CountTooLarge` where they have more than 2^62 values together, and `OutOfMemory`, which
-/// comes for texts alone.
+/// # Errors
+///
+/// - `CountTooLarge`, if they have more than 2^62 values in all.
+/// - `OutOfMemory`, which comes only for texts.
 pub fn join_all(alloc: Global, kind: StatKind, stats: &[Stat]) -> Result<Stat, StatFault>
     requires { All (λ s. body_is_of kind s.body ≡ true) stats.now }
     // If each statistic's body is of `kind`, then a returned statistic is the joined one. Its count is the sum of the

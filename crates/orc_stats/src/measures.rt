@@ -1,4 +1,4 @@
-//! What is counted of the values of one kind of column.
+//! What is counted of the values of a column, by its kind of statistic.
 ghost use Rattle.std.specs.Prelude.{ℕ};
 
 mod bins;
@@ -21,14 +21,14 @@ pub use plain::Plain;
 use std::alloc::Global;
 pub use texts::Texts;
 
-/// A total has a size: it bounds what is to be added.
+/// A total with a size, which bounds what may still be added.
 pub trait Sizes {
-    // Of the total so far, without its sign.
+    // The absolute value of the total so far.
     ghost size: { Self → ℕ };
 }
 
-/// What is counted of the values of one kind of column, and how two such counts join. It borrows the
-/// texts that it was given.
+/// What is counted of the values of one kind of column, and how two such counts join. It borrows the texts that it
+/// was given.
 pub trait Measures<'r>: Sizes + Sized + Drop {
     ghost use Rattle.std.specs.Prelude.{◌≡◌, ◌+◌, ◌^◌, ◌≤◌, ◌<◌, ℕ, true, List, IfOk, IfErr, All, length};
     ghost use Rattle.orc_values.specs.Cells.{Cell};
@@ -44,7 +44,7 @@ pub trait Measures<'r>: Sizes + Sized + Drop {
 
     // What is kept of the values.
     ghost Parts: { Type 0 };
-    // How they are counted.
+    // How the values are counted.
     ghost measure: { Measure Parts };
     // What is kept so far.
     ghost parts: { Self → Parts };
@@ -52,54 +52,55 @@ pub trait Measures<'r>: Sizes + Sized + Drop {
     ghost kind: { StatKind };
     // Whether `body` takes memory.
     ghost TakesMemory: { Type 0 };
-    // A cell's children have no part in what is counted of it.
+    // A cell's children don't matter for what is counted of it.
     ghost childless_kept: { (c : Cell) → measure.of_cell (childless c) ≡ measure.of_cell c };
     // What was counted of cells, once closed, is their statistic.
     ghost cells_are: { (cells : List Cell)
         → length cells ≤ 2 ^ 62
         → stat_of_kept measure (cells_kept measure cells) ≡ stat kind cells };
-    // What was counted of statistics is what they are joined.
+    // What was counted of statistics, once closed, is the statistic that they join to.
     ghost stats_are: { (ss : List Stat) → stat_of_kept measure (stats_kept measure ss) ≡ joined kind ss };
 
-    /// Of no values.
+    /// Returns the measures of no values.
     fn none() -> Self
-        // It is what is kept of no values.
+        // The returned measures are those of no values.
         ensures none { parts result ≡ measure.joins.none }
-        // Its total is 0.
+        // The total of the returned measures has the size 0.
         ensures size { Self.size result ≡ 0 };
 
-    /// Counts one cell more; null adds nothing.
+    /// Counts one more cell; null adds nothing.
     fn add_own(&mut self, own: Own<'r>)
         requires kind { is_of kind (own_cell own) ≡ true }
         requires room { Self.size self.old + 2 ^ 64 < 2 ^ 127 }
-        // Where the cell is of the kind, and the total and 2^64 are below 2^127 together, it becomes
-        // the join of what was kept with what is kept of that cell.
+        // The measures become the join of what they were before with the measures of the cell `own`.
         ensures joined { parts self.new ≡ measure.joins.join (parts self.old) (measure.of_cell (own_cell own.entry)) }
-        // Its total grows by 2^64 at most, without the sign.
+        // The size of the total grows by at most 2^64.
         ensures size { Self.size self.new ≤ Self.size self.old + 2 ^ 64 };
 
-    /// Of the values that a statistic is of.
+    /// Returns the measures of the values that a statistic has counted.
     fn of_body(body: &'r Body) -> Self
         requires { body_is_of kind body.now ≡ true }
-        // Where the body is of the kind, it is what is kept of the values that the body is of.
+        // The returned measures are those of the values that `body` was made of, as far as `body` knows them.
         ensures body { parts result ≡ measure.of_body body.now }
-        // Its total is 2^64 at most, without the sign.
+        // The total of the returned measures has a size of at most 2^64.
         ensures size { Self.size result ≤ 2 ^ 64 };
 
-    /// Of the values of both.
+    /// Returns the measures of the values of both.
     fn join(&self, other: &Self) -> Self
         requires { Self.size self.now + Self.size other.now < 2 ^ 127 }
-        // Where both totals together are below 2^127, it is the join of what both keep.
+        // The returned measures are the join of both.
         ensures joined { parts result ≡ measure.joins.join (parts self.now) (parts other.now) }
-        // Its total is no more than both together, without the signs.
+        // The size of the returned total is at most the sum of the sizes of both totals.
         ensures size { Self.size result ≤ Self.size self.now + Self.size other.now };
 
-    /// The body of their statistic.
+    /// Returns the body of the statistic of all values that were counted.
     ///
-    /// Refusal: `OutOfMemory`, where a text has to be copied.
+    /// # Errors
+    ///
+    /// `OutOfMemory`, which comes only if a text has to be copied.
     fn body(&self, alloc: Global) -> Result<Body, StatFault>
-        // The body is that of what is kept.
+        // The returned body is the one of what was counted.
         ensures found { IfOk result (λ body. body ≡ measure.body (parts self.now)) }
-        // The only refusal is want of memory, where the kind's body takes some.
+        // The only error is `OutOfMemory`, which comes only if the bodies of this kind take memory.
         ensures fault { IfErr result (λ fault. (fault ≡ OutOfMemory) × TakesMemory) };
 }

@@ -1,4 +1,4 @@
-//! Statistics and their messages in a file, read and written.
+//! Reads statistics from their messages in a file, and makes these messages.
 ghost use Rattle.std.specs.Prelude.{◌≡◌, IfOk, IfErr, true};
 ghost use Rattle.orc_stats.specs.Messages as spec;
 ghost use Rattle.orc_stats.specs.Messages.{stat_read, body_read, few_trues, in_limits, message_of, takes_memory};
@@ -19,12 +19,13 @@ use orc_wire::ColumnStats;
 use std::alloc::{AllocError, Global};
 
 impl Stat {
-    /// The statistic of a column of that kind that a message is (ORC specification, "Column
-    /// Statistics"). The record of that kind alone counts, and where there are no values it means
-    /// nothing.
+    /// Reads the statistic of a column of a kind from its message (ORC specification, "Column Statistics"). Only the
+    /// record of that kind counts, and if there are no values, it means nothing.
     ///
-    /// Refusals: `CountTooLarge` exactly where the values, or among truth values the true ones, are
-    /// more than 2^62, and `OutOfMemory`, which comes for texts alone.
+    /// # Errors
+    ///
+    /// - `CountTooLarge`, if and only if there are more than 2^62 values, or more than 2^62 true ones.
+    /// - `OutOfMemory`, which comes only for texts.
     pub fn read(alloc: Global, kind: StatKind, message: &ColumnStats) -> Result<Stat, StatFault>
         // A returned statistic has the message's `number_of_values` as its count, the message's `has_null`, and the
         // parts that the record of `kind` stores. If the message counts no values, each part is unknown, whatever the
@@ -54,10 +55,12 @@ impl Stat {
         })
     }
 
-    /// The statistic as a message (ORC specification, "Column Statistics"): the one record of its
-    /// kind, where a part is known.
+    /// Makes the message of the statistic (ORC specification, "Column Statistics"). It has the record of the
+    /// statistic's kind if a part is known.
     ///
-    /// Refusal: `OutOfMemory`, only where a text is known, or how many values are true.
+    /// # Errors
+    ///
+    /// `OutOfMemory`, which comes only if a text or the number of true values is known.
     #[inline(always)]
     pub fn put(&self, alloc: Global) -> Result<ColumnStats, StatFault>
         // A returned message has the statistic's count and `nulls`, the record of the statistic's kind if a part is
@@ -104,7 +107,7 @@ impl Stat {
     }
 }
 
-/// Nothing is known of the values.
+/// Returns the body of a kind in which no part is known.
 pub(crate) fn unknown(kind: StatKind) -> Body
     ensures { result ≡ spec.unknown kind }
 {
@@ -123,7 +126,7 @@ pub(crate) fn unknown(kind: StatKind) -> Body
     }
 }
 
-/// What the record of the column's kind says.
+/// Reads the body of a kind from the message's record of that kind.
 fn body_of(alloc: Global, kind: StatKind, message: &ColumnStats) -> Result<Body, AllocError>
     ensures found { IfOk result (λ body. body ≡ body_read kind message.now) }
     ensures fault { IfErr result (λ _. kind ≡ kind_name.Texts) }
@@ -139,7 +142,7 @@ fn body_of(alloc: Global, kind: StatKind, message: &ColumnStats) -> Result<Body,
     }
 }
 
-/// Whether at most 2^62 values are true, where that is known.
+/// Returns whether at most 2^62 values are true, or their number is unknown.
 fn has_few_trues(body: &Body) -> bool
     ensures { result ≡ few_trues (trues_of body.now) }
 {

@@ -1,5 +1,4 @@
-//! The record of each kind in a column's message, read and written (ORC specification, "Column
-//! Statistics").
+//! The record of each kind in a column's message (ORC specification, "Column Statistics").
 ghost use Rattle.std.specs.Prelude.{◌≡◌, IfOk, IfErr, ◌||◌, true};
 ghost use Rattle.std.specs.Option.{is_some};
 ghost use Rattle.orc_stats.specs.Messages as spec;
@@ -12,7 +11,7 @@ use orc_wire::{
 };
 use std::alloc::{AllocError, Global};
 
-/// What a record of whole numbers says.
+/// Reads the record of whole numbers.
 pub(crate) fn ints_body(found: &Option<IntegerStatistics>) -> Body
     ensures { result ≡ spec.ints_body found.now }
 {
@@ -30,7 +29,7 @@ pub(crate) fn ints_body(found: &Option<IntegerStatistics>) -> Body
     }
 }
 
-/// The record of whole numbers.
+/// Makes the record of whole numbers, or none if no part is known.
 pub(crate) fn ints_record(
     least: Option<i64>,
     greatest: Option<i64>,
@@ -49,7 +48,7 @@ pub(crate) fn ints_record(
     }
 }
 
-/// What the buckets of truth values say: the first is how many are true.
+/// Reads the buckets of truth values; the first one is the number of true values.
 pub(crate) fn bools_body(found: &Option<BucketStatistics>) -> Body
     ensures { result ≡ spec.bools_body found.now }
 {
@@ -61,7 +60,7 @@ pub(crate) fn bools_body(found: &Option<BucketStatistics>) -> Body
     }
 }
 
-/// The buckets of truth values.
+/// Makes the buckets of truth values, or none if the number of true values is unknown.
 pub(crate) fn bools_record(
     alloc: Global,
     trues: Option<u64>,
@@ -79,7 +78,7 @@ pub(crate) fn bools_record(
     }))
 }
 
-/// What a record of dates says.
+/// Reads the record of dates.
 pub(crate) fn dates_body(found: &Option<DateStatistics>) -> Body
     ensures { result ≡ spec.dates_body found.now }
 {
@@ -95,7 +94,7 @@ pub(crate) fn dates_body(found: &Option<DateStatistics>) -> Body
     }
 }
 
-/// The record of dates.
+/// Makes the record of dates, or none if no part is known.
 pub(crate) fn dates_record(least: Option<i32>, greatest: Option<i32>) -> Option<DateStatistics>
     ensures { result ≡ spec.dates_record least greatest }
 {
@@ -109,7 +108,7 @@ pub(crate) fn dates_record(least: Option<i32>, greatest: Option<i32>) -> Option<
     }
 }
 
-/// What a record of texts says.
+/// Reads the record of texts.
 pub(crate) fn texts_body(
     alloc: Global,
     found: &Option<StringStatistics>,
@@ -130,7 +129,7 @@ pub(crate) fn texts_body(
     }
 }
 
-/// The record of texts.
+/// Makes the record of texts, or none if no part is known.
 pub(crate) fn texts_record(
     alloc: Global,
     least: &Option<Bytes>,
@@ -151,7 +150,7 @@ pub(crate) fn texts_record(
     }
 }
 
-/// What a record of byte strings says.
+/// Reads the record of byte strings.
 pub(crate) fn bins_body(found: &Option<BinaryStatistics>) -> Body
     ensures { result ≡ spec.bins_body found.now }
 {
@@ -161,7 +160,7 @@ pub(crate) fn bins_body(found: &Option<BinaryStatistics>) -> Body
     }
 }
 
-/// The record of byte strings.
+/// Makes the record of byte strings, or none if the sum is unknown.
 pub(crate) fn bins_record(sum: Option<i64>) -> Option<BinaryStatistics>
     ensures { result ≡ spec.bins_record sum }
 {
@@ -171,7 +170,7 @@ pub(crate) fn bins_record(sum: Option<i64>) -> Option<BinaryStatistics>
     }
 }
 
-/// What a record of lists or maps says.
+/// Reads the record of lists or maps.
 pub(crate) fn children_body(found: &Option<CollectionStatistics>) -> Body
     ensures { result ≡ spec.children_body found.now }
 {
@@ -189,7 +188,7 @@ pub(crate) fn children_body(found: &Option<CollectionStatistics>) -> Body
     }
 }
 
-/// The record of lists or maps.
+/// Makes the record of lists or maps, or none if no part is known.
 pub(crate) fn children_record(
     least: Option<u64>,
     greatest: Option<u64>,

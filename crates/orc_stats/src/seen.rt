@@ -1,29 +1,29 @@
-//! A part of a statistic while it is counted: of no values yet, known, or not to be known any more.
+//! A part of a statistic while it is counted: no value so far, known, or unknown from now on.
 ghost use Rattle.std.specs.Prelude.{◌≡◌};
 ghost use Rattle.std.specs.Ordering.{flip_args};
 ghost use Rattle.orc_stats.specs.Seen.{both, seen_of, known_of};
 ghost use Rattle.orc_stats.specs.Statistics.{lower};
 ghost use Rattle.orc_stats.specs.declared.seen.Seen.TheVariants.{Known};
 
-/// What was seen of a part of statistics.
+/// What was seen of a part of a statistic.
 #[derive(Clone, Copy, Debug)]
 pub enum Seen<T> {
-    /// No value yet.
+    /// No value so far.
     Nothing,
-    /// Of all values that were seen, this.
+    /// The part for all values that were seen.
     Known(T),
-    /// There was a value of which the part isn't known.
+    /// There was a value for which the part is unknown.
     Unknown,
 }
 
-/// The lower of two, in their order.
+/// Returns the lower of two values in their order.
 pub(crate) fn lower<T: Ord + Copy>(x: T, y: T) -> T
     ensures { result ≡ lower T.cmp x y }
 {
     if x.cmp(&y).is_gt() { y } else { x }
 }
 
-/// The higher of two, in their order.
+/// Returns the higher of two values in their order.
 pub(crate) fn higher<T: Ord + Copy>(x: T, y: T) -> T
     ensures { result ≡ lower (flip_args T.cmp) x y }
 {
@@ -31,7 +31,7 @@ pub(crate) fn higher<T: Ord + Copy>(x: T, y: T) -> T
 }
 
 impl<T: Copy> Seen<T> {
-    /// A part of a statistic that has values.
+    /// Returns a part of a statistic that has values.
     pub(crate) fn of(part: Option<T>) -> Seen<T>
         ensures { result ≡ seen_of part }
     {
@@ -41,7 +41,7 @@ impl<T: Copy> Seen<T> {
         }
     }
 
-    /// The part, if it is known.
+    /// Returns the part, if it is known.
     pub(crate) fn known(self) -> Option<T>
         ensures { result ≡ known_of self }
     {
@@ -53,7 +53,7 @@ impl<T: Copy> Seen<T> {
 }
 
 impl<T: Ord + Copy> Seen<T> {
-    /// Becomes the least of what was seen and a value more.
+    /// Becomes the least of what was seen and of one more value.
     #[inline(always)]
     pub(crate) fn keep_least(&mut self, value: T)
         ensures { self.new ≡ both (lower T.cmp) self.old (Known value) }
@@ -69,7 +69,7 @@ impl<T: Ord + Copy> Seen<T> {
         }
     }
 
-    /// Becomes the greatest of what was seen and a value more.
+    /// Becomes the greatest of what was seen and of one more value.
     #[inline(always)]
     pub(crate) fn keep_greatest(&mut self, value: T)
         ensures { self.new ≡ both (lower (flip_args T.cmp)) self.old (Known value) }
@@ -85,7 +85,7 @@ impl<T: Ord + Copy> Seen<T> {
         }
     }
 
-    /// The least of both.
+    /// Returns the least of both.
     pub(crate) fn least(self, other: Seen<T>) -> Seen<T>
         ensures { result ≡ both (lower T.cmp) self other }
     {
@@ -96,7 +96,7 @@ impl<T: Ord + Copy> Seen<T> {
         }
     }
 
-    /// The greatest of both.
+    /// Returns the greatest of both.
     pub(crate) fn greatest(self, other: Seen<T>) -> Seen<T>
         ensures { result ≡ both (lower (flip_args T.cmp)) self other }
     {

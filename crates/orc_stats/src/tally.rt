@@ -1,16 +1,15 @@
-//! Counting: what is kept of all that was counted, and how two such join.
+//! Counting: what is kept of all that was counted, and how two tallies join.
 use crate::fault::StatFault;
 use crate::kind::StatKind;
 use crate::stat::Stat;
 use orc_values::{Lent, Own, Row, own_of};
 use std::alloc::Global;
 
-/// So many values at most are counted in one statistic.
+/// One statistic counts at most this many values.
 pub(crate) const MOST_VALUES: u64 = 1 << 62;
 
-/// The statistic so far of a column's cells, of other statistics, or of both. Cells and tallies may
-/// come in any order and grouping. It borrows the texts that it was given, so only `close` takes
-/// memory, and of the kinds here that of STRING alone.
+/// The statistic so far of a column's cells, of other statistics, or of both. Cells and tallies may come in any order
+/// and grouping. It borrows the texts that it was given, so only `close` takes memory, and only for STRING columns.
 pub trait Tally<'r>: Sized + Drop {
     ghost use Rattle.std.specs.Prelude.{◌≡◌, ◌+◌, ◌^◌, ◌≤◌, ◌<◌, ℕ, true, List, IfOk, IfErr, OnOk, All, length, sum_by};
     ghost use Rattle.orc_values.specs.Cells.{Cell, is_value, values};
@@ -29,7 +28,7 @@ pub trait Tally<'r>: Sized + Drop {
 
     // What is counted of the values.
     ghost Parts: { Type 0 };
-    // How it is counted.
+    // How the values are counted.
     ghost measure: { Measure Parts };
     // What is kept so far.
     ghost kept: { Self → Kept Parts };
@@ -37,21 +36,21 @@ pub trait Tally<'r>: Sized + Drop {
     ghost kind: { StatKind };
     // Whether `close` takes memory.
     ghost TakesMemory: { Type 0 };
-    // A cell's children have no part in what is counted of it.
+    // A cell's children don't matter for what is counted of it.
     ghost childless_kept: { (c : Cell) → measure.of_cell (childless c) ≡ measure.of_cell c };
     // What was counted of cells, once closed, is their statistic.
     ghost cells_are: { (cells : List Cell)
         → length cells ≤ 2 ^ 62
         → stat_of_kept measure (cells_kept measure cells) ≡ stat kind cells };
-    // What was counted of statistics is what they are joined.
+    // What was counted of statistics, once closed, is the statistic that they join to.
     ghost stats_are: { (ss : List Stat) → stat_of_kept measure (stats_kept measure ss) ≡ joined kind ss };
 
-    /// Of nothing.
+    /// Returns the tally of nothing.
     fn unit() -> Self
         // The returned tally has counted nothing.
         ensures { kept result ≡ none_kept measure };
 
-    /// Counts one cell more, as its own column says it.
+    /// Counts one more cell, which is given without its children.
     fn add_own(&mut self, own: Own<'r>)
         requires kind { is_of kind (own_cell own) ≡ true }
         requires most { (kept self.old).count + bit (is_value (own_cell own)) ≤ 2 ^ 62 }
@@ -59,7 +58,7 @@ pub trait Tally<'r>: Sized + Drop {
         // tally has counted the cell `own` in addition to what it had counted before.
         ensures { kept self.new ≡ together measure (kept self.old) (cell_kept measure (own_cell own.entry)) };
 
-    /// Of what a statistic is of.
+    /// Returns the tally of what a statistic has counted.
     fn of_stat(stat: &'r Stat) -> Self
         requires kind { body_is_of kind stat.now.body ≡ true }
         requires most { stat.now.count ≤ 2 ^ 62 }
@@ -67,23 +66,25 @@ pub trait Tally<'r>: Sized + Drop {
         // has counted what `stat` is the statistic of.
         ensures { kept result ≡ stat_kept measure stat.now };
 
-    /// Counts what another counted, too.
+    /// Counts what another tally has counted, too.
     fn join(&mut self, other: &Self)
         requires { (kept self.old).count + (kept other.now).count ≤ 2 ^ 62 }
         // If both tallies together count at most 2^62 values, then the tally has counted what `other` has counted in
         // addition to what it had counted before.
         ensures { kept self.new ≡ together measure (kept self.old) (kept other.now) };
 
-    /// The statistic of all that was counted.
+    /// Returns the statistic of all that was counted.
     ///
-    /// Refusal: `OutOfMemory`, where a text has to be copied.
+    /// # Errors
+    ///
+    /// `OutOfMemory`, which comes only if a text has to be copied.
     fn close(&self, alloc: Global) -> Result<Stat, StatFault>
         // A returned statistic is that of all that the tally has counted.
         ensures found { IfOk result (λ s. s ≡ stat_of_kept measure (kept self.now)) }
         // The only error is `OutOfMemory`, which comes only if the statistics of the tally's kind take memory.
         ensures fault { IfErr result (λ fault. (fault ≡ OutOfMemory) × TakesMemory) };
 
-    /// Counts one cell more.
+    /// Counts one more cell.
     final fn add(&mut self, cell: &'r Row<'_>)
         requires kind { is_of kind (view cell.now) ≡ true }
         requires most { (kept self.old).count + bit (is_value (view cell.now)) ≤ 2 ^ 62 }
@@ -94,7 +95,11 @@ pub trait Tally<'r>: Sized + Drop {
         self.add_own(own_of(cell));
     }
 
-    /// The statistic of cells.
+    /// Returns the statistic of cells.
+    ///
+    /// # Errors
+    ///
+    /// `OutOfMemory`, which comes only if the statistics of the tally's kind take memory.
     final fn of_cells(alloc: Global, cells: &'r [Lent<'r, '_>]) -> Result<Stat, StatFault>
         requires kind { All (λ c. is_of kind c ≡ true) (lent_cells cells.now) }
         requires most { length cells.now ≤ 2 ^ 62 }
@@ -112,7 +117,12 @@ pub trait Tally<'r>: Sized + Drop {
         tally.close(alloc)
     }
 
-    /// The statistic of what several statistics are of.
+    /// Returns the statistic that several statistics join to.
+    ///
+    /// # Errors
+    ///
+    /// - `CountTooLarge`, if they have more than 2^62 values in all.
+    /// - `OutOfMemory`, which comes only if the statistics of the tally's kind take memory.
     final fn of_stats(alloc: Global, stats: &'r [Stat]) -> Result<Stat, StatFault>
         requires { All (λ s. body_is_of kind s.body ≡ true) stats.now }
         // If each statistic's body is of the tally's kind, then a returned statistic is the one that `stats` join to.

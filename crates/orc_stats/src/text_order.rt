@@ -1,4 +1,4 @@
-//! The order of texts by their bytes, and the least and the greatest by it.
+//! The order of texts by their bytes, and the least and the greatest text by it.
 ghost use Rattle.std.specs.Prelude.{◌≡◌};
 ghost use Rattle.std.specs.Ordering.{flip_args};
 ghost use Rattle.orc_stats.specs.Seen.{both, seen_now};
@@ -8,11 +8,10 @@ ghost use Rattle.orc_stats.specs.declared.seen.Seen.TheVariants.{Known};
 use crate::seen::Seen;
 use std::cmp::Ordering;
 
-/// So many bytes are compared one by one, in place: most texts differ within them.
+/// How many bytes are compared one by one, in place: most texts differ within them.
 const FIRST_BYTES: usize = 8;
 
-/// How a text stands to another in the order of their bytes. What is behind the first few is left to the standard
-/// library, which compares many at once.
+/// Compares two texts by their bytes. The standard library compares the bytes after the first few, many together.
 #[inline(always)]
 fn compare(x: &[u8], y: &[u8]) -> Ordering
     ensures { result ≡ text_cmp x.now y.now }
@@ -26,7 +25,7 @@ fn compare(x: &[u8], y: &[u8]) -> Ordering
     x[few..].cmp(&y[few..])
 }
 
-/// Becomes the least of the texts that were seen and one more.
+/// Becomes the least of the texts that were seen and of one more.
 #[inline(always)]
 pub(crate) fn keep_least_text<'r>(least: &mut Seen<&'r [u8]>, text: &'r [u8])
     ensures { seen_now least.new ≡ both (lower text_cmp) (seen_now least.old) (Known text.now) }
@@ -42,7 +41,7 @@ pub(crate) fn keep_least_text<'r>(least: &mut Seen<&'r [u8]>, text: &'r [u8])
     }
 }
 
-/// Becomes the greatest of the texts that were seen and one more.
+/// Becomes the greatest of the texts that were seen and of one more.
 #[inline(always)]
 pub(crate) fn keep_greatest_text<'r>(greatest: &mut Seen<&'r [u8]>, text: &'r [u8])
     ensures { seen_now greatest.new ≡ both (lower (flip_args text_cmp)) (seen_now greatest.old) (Known text.now) }

@@ -1,4 +1,4 @@
-//! Least and greatest texts, lent and of our own.
+//! Least and greatest texts, borrowed and copied.
 ghost use Rattle.std.specs.Prelude.{◌≡◌, IfOk, IfErr, true};
 ghost use Rattle.std.specs.Option.{is_some};
 ghost use Rattle.orc_stats.specs.Seen.{seen_of, seen_now, known_of};
@@ -7,7 +7,7 @@ use crate::seen::Seen;
 use orc_wire::Bytes;
 use std::alloc::{AllocError, Global};
 
-/// A text of a statistic that has values, lent.
+/// Returns a text of a statistic that has values, borrowed.
 pub(crate) fn lent_part(part: &Option<Bytes>) -> Seen<&[u8]>
     ensures { seen_now result ≡ seen_of part.now }
 {
@@ -17,14 +17,14 @@ pub(crate) fn lent_part(part: &Option<Bytes>) -> Seen<&[u8]>
     }
 }
 
-/// Bytes of our own.
+/// Copies bytes.
 fn copy_bytes(alloc: Global, bytes: &[u8]) -> Result<Bytes, AllocError>
     ensures { IfOk result (λ copy. copy ≡ bytes.now) }
 {
     Ok(Bytes::from_vec(bytes.to_vec(alloc)?))
 }
 
-/// A text of our own, if it is known.
+/// Copies a text, if it is known.
 #[inline(always)]
 pub(crate) fn owned_part(alloc: Global, part: Seen<&[u8]>) -> Result<Option<Bytes>, AllocError>
     ensures { IfOk result (λ text. text ≡ known_of (seen_now part.entry)) }
@@ -35,7 +35,7 @@ pub(crate) fn owned_part(alloc: Global, part: Seen<&[u8]>) -> Result<Option<Byte
     }
 }
 
-/// A text of our own, if there is one.
+/// Copies a text, if there is one.
 pub(crate) fn copy_part(alloc: Global, part: &Option<Bytes>) -> Result<Option<Bytes>, AllocError>
     ensures found { IfOk result (λ copy. copy ≡ part.now) }
     ensures fault { IfErr result (λ _. is_some part.now ≡ true) }

@@ -9,7 +9,7 @@ ghost use Rattle.orc_stats.specs.Sizes.{total_size, count_size};
 
 use crate::seen::Seen;
 
-/// The total of both.
+/// Returns the total of both.
 pub(crate) fn plus(one: Seen<i128>, other: Seen<i128>) -> Seen<i128>
     requires { total_size one + total_size other < 2 ^ 127 }
     ensures total { result ≡ both ◌+ℤ◌ one other }
@@ -36,7 +36,7 @@ pub(crate) fn add_to(total: &mut Seen<i128>, number: i128)
     }
 }
 
-/// The total of a statistic that has values.
+/// Returns the total of a statistic that has values.
 pub(crate) fn total_of(sum: Option<i64>) -> Seen<i128>
     ensures total { result ≡ seen_of sum }
     ensures size { total_size result ≤ 2 ^ 64 }
@@ -47,7 +47,7 @@ pub(crate) fn total_of(sum: Option<i64>) -> Seen<i128>
     }
 }
 
-/// The total, where it is known and fits 64 bits.
+/// Returns the total, if it is known and fits 64 bits with the sign.
 pub(crate) fn in_64(total: Seen<i128>) -> Option<i64>
     ensures { result ≡ option_and_then fit (known_of total) }
 {
@@ -57,7 +57,7 @@ pub(crate) fn in_64(total: Seen<i128>) -> Option<i64>
     }
 }
 
-/// The number of both.
+/// Returns the number of both together.
 pub(crate) fn more(one: Seen<u128>, other: Seen<u128>) -> Seen<u128>
     requires { count_size one + count_size other < 2 ^ 127 }
     ensures total { result ≡ both ◌+◌ one other }
@@ -84,7 +84,7 @@ pub(crate) fn count_to(total: &mut Seen<u128>, number: u64)
     }
 }
 
-/// The number of a statistic that has values.
+/// Returns the number of a statistic that has values.
 pub(crate) fn number_of(number: Option<u64>) -> Seen<u128>
     ensures total { result ≡ seen_of number }
     ensures size { count_size result ≤ 2 ^ 64 }
@@ -95,7 +95,7 @@ pub(crate) fn number_of(number: Option<u64>) -> Seen<u128>
     }
 }
 
-/// The number, where it is known and at most 2^62.
+/// Returns the number, if it is known and at most 2^62.
 pub(crate) fn in_limit(number: Seen<u128>) -> Option<u64>
     ensures { result ≡ option_and_then limit (known_of number) }
 {
@@ -105,7 +105,7 @@ pub(crate) fn in_limit(number: Seen<u128>) -> Option<u64>
     }
 }
 
-/// The number, where it is known and has 64 bits.
+/// Returns the number, if it is known and has at most 64 bits.
 pub(crate) fn in_u64(number: Seen<u128>) -> Option<u64>
     ensures { result ≡ option_and_then room (known_of number) }
 {

@@ -1,4 +1,4 @@
--- What is counted of a cell is counted of it without its children, too.
+-- What is counted of a cell doesn't depend on its children.
 use Rattle.std.proofs.Common.{◌≡◌, refl, ap, length, Some}
 use Rattle.orc_values.specs.Cells.{Cell, null, leaf, list, struct, pairs, list_of_cells, list_of_pairs}
 use Rattle.orc_values.specs.Childless.{childless}

@@ -1,4 +1,4 @@
--- What the tally of each kind of column comes to.
+-- What the tally of each kind of column gives.
 use Rattle.std.proofs.Common.{◌≡◌, refl, ◌∙◌, ap, arith, ℕ, suc, ◌+◌, ◌^◌, ◌≤◌, ℤ, pos, ◌+ℤ◌, Bool, true, false, List, [], ◌∷◌, length, map, Option, Some, None}
 use Rattle.std.specs.List.{filter_map, cons_option}
 use Rattle.std.specs.Option.{option_map, option_and_then, IfSome}
@@ -96,7 +96,7 @@ bins_cells cells = stat_of_kept_cells bins kind.Bins cells
 pub bins_stats : (ss : List Stat) → stat_of_kept bins (stats_kept bins ss) ≡ joined kind.Bins ss
 bins_stats ss = stat_of_kept_stats bins kind.Bins ss λ bs. ap body.Bins (known_all_in _ int_sums in_64 sum_of bs)
 
--- no more are true than there are
+-- at most as many are true as there are
 pub few_bits : (bs : List Bool) → IfSome (reduce ◌+◌ (map bit bs)) (λ n. n ≤ length bs)
 few_bits [] = tt
 few_bits (b ∷ bs) = bits_onto b (reduce ◌+◌ (map bit bs)) (length bs) (few_bits bs)

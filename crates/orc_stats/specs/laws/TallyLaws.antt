@@ -1,4 +1,4 @@
--- What tallies come to: the words of statistics.
+-- What tallies give: the parts of statistics.
 use Rattle.std.proofs.Common.{◌≡◌, refl, sym, ◌∙◌, ap, arith, ℕ, ◌+◌, Bool, true, false, if◌then◌else◌, List, [], ◌∷◌, ◌++◌, length, map, filter, sum_by, Option, Some, None, zero-add}
 use Rattle.std.proofs.lemmas.List.Sums.{sum_by-cons}
 use Rattle.std.specs.List.{filter_map, cons_option}
@@ -35,7 +35,7 @@ module _ {P : Type 0} (m : Measure P) where
   pub none_together : (a : Kept P) → together m a (none_kept m) ≡ a
   none_together a = together_comm a (none_kept m) ∙ together_none a
 
-  -- null adds nothing but itself
+  -- null adds only that there is a null
   pub null_added : (n : ℕ) (o r : Option Bool) (p : P) (c : Cell) → c ≡ null → r ≡ or_known o (Some true)
       → (let x : Kept P = record { count = n; nulls = r; parts = p } in
       let y : Kept P = record { count = n; nulls = o; parts = p } in x ≡ together m y (cell_kept m c))
@@ -54,7 +54,7 @@ module _ {P : Type 0} (m : Measure P) where
   stats_kept-append [] b = sym (together_none (stats_kept m b))
   stats_kept-append (s ∷ a) b = ap (together m (stat_kept m s)) (stats_kept-append a b) ∙ sym (together_assoc (stat_kept m s) (stats_kept m a) (stats_kept m b))
 
-  -- the parts of tallies
+  -- the parts of the tally of cells
   pub cells_kept_parts : (cells : List Cell) → (cells_kept m cells).parts ≡ parts_together m.joins (map m.of_cell cells)
   cells_kept_parts [] = refl
   cells_kept_parts (c ∷ cells) = ap (m.joins.join (m.of_cell c)) (cells_kept_parts cells)
@@ -80,7 +80,7 @@ module _ {P : Type 0} (m : Measure P) where
       let y : Stat = record { count = c; nulls = o; body = q } in x ≡ y)
   stat_is e f g = λ i. record { count = e i; nulls = f i; body = g i }
 
-  -- the statistic of cells, where its body is
+  -- the tally of cells gives their statistic, if it gives its body
   pub stat_of_kept_cells : (k : StatKind) (cells : List Cell)
       → m.body (parts_together m.joins (map m.of_cell cells)) ≡ values_body k cells → stat_of_kept m (cells_kept m cells) ≡ stat k cells
   stat_of_kept_cells k cells e = stat_is (cells_kept_count cells) (cells_kept_nulls cells) (ap m.body (cells_kept_parts cells) ∙ e)
@@ -111,7 +111,7 @@ module _ {P : Type 0} (m : Measure P) where
       stats_kept_more (has_values s) s.body (stats_kept m ss).parts (map (λ t. t.body) (filter has_values ss)) (stats_kept_parts ss)
       ∙ ap (λ bs. parts_together m.joins (map m.of_body bs)) (sym (with_values (has_values s) s (filter has_values ss)))
 
-  -- the statistic of statistics, where its body is
+  -- the tally of statistics gives what they join to, if it gives its body
   pub stat_of_kept_stats : (k : StatKind) (ss : List Stat)
       → ((bs : List Body) → m.body (parts_together m.joins (map m.of_body bs)) ≡ bodies_joined k bs)
       → stat_of_kept m (stats_kept m ss) ≡ joined k ss
@@ -133,7 +133,7 @@ module _ {A : Type 0} (op : A → A → A) (o : IsOrderly op) where
   seen_values pick [] = refl
   seen_values pick (x ∷ xs) = ap (both op (value_seen (pick x))) (seen_values pick xs) ∙ value_more (pick x) (filter_map pick xs)
 
-  -- of parts that are all known, or not
+  -- what was seen of parts that are all known, or unknown
   pub parts_seen : Option (List A) → Seen A
   parts_seen None = Unknown
   parts_seen (Some xs) = value_seen (reduce op xs)
@@ -165,7 +165,7 @@ module _ {A : Type 0} (op : A → A → A) (o : IsOrderly op) where
   known_value None = refl
   known_value (Some x) = refl
 
-  -- what is known of parts, with a word on what is put together
+  -- what is known of parts, with a function of what was combined
   pub known_parts : {B : Type 0} (f : A → Option B) (p : Option (List A))
       → option_and_then f (known_of (parts_seen p)) ≡ option_and_then (λ xs. option_and_then f (reduce op xs)) p
   unfolding parts_seen

@@ -1,4 +1,4 @@
-//! BINARY: the sum of lengths.
+//! BINARY: the sum of the lengths.
 use crate::fault::StatFault;
 use crate::measures::{Measures, Sizes};
 use crate::seen::Seen;
@@ -7,7 +7,7 @@ use crate::totals::{add_to, in_64, plus, total_of};
 use orc_values::Own;
 use std::alloc::Global;
 
-/// Of byte strings: the sum of their lengths.
+/// Measures of byte strings: the sum of their lengths.
 #[derive(Clone, Copy, Debug)]
 pub struct Bins {
     sum: Seen<i128>,

@@ -7,7 +7,7 @@ use crate::totals::{count_to, in_limit, more, number_of};
 use orc_values::Own;
 use std::alloc::Global;
 
-/// Of truth values: how many are true.
+/// Measures of truth values: how many are true.
 #[derive(Clone, Copy, Debug)]
 pub struct Bools {
     trues: Seen<u128>,

@@ -1,4 +1,4 @@
-//! LIST and MAP: least and greatest number of children, and their total.
+//! LIST and MAP: the least and the greatest number of children, and their total.
 use crate::fault::StatFault;
 use crate::measures::{Measures, Sizes};
 use crate::seen::Seen;
@@ -7,8 +7,8 @@ use crate::totals::{count_to, in_u64, more, number_of};
 use orc_values::Own;
 use std::alloc::Global;
 
-/// Of lists and maps: the least and the greatest number of children, and the total of all these numbers.
-/// The children of a map are its pairs.
+/// Measures of lists and maps: the least and the greatest number of children, and the total of these numbers. The
+/// children of a map are its pairs.
 #[derive(Clone, Copy, Debug)]
 pub struct Children {
     least: Seen<u64>,

@@ -1,4 +1,4 @@
-//! DATE: least and greatest.
+//! DATE: the least and the greatest.
 use crate::fault::StatFault;
 use crate::measures::{Measures, Sizes};
 use crate::seen::Seen;
@@ -6,7 +6,7 @@ use crate::stat::Body;
 use orc_values::Own;
 use std::alloc::Global;
 
-/// Of dates: least and greatest.
+/// Measures of dates: the least and the greatest.
 #[derive(Clone, Copy, Debug)]
 pub struct Dates {
     least: Seen<i32>,

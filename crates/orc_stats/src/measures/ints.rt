@@ -1,4 +1,4 @@
-//! BYTE, SHORT, INT and LONG: least, greatest and sum.
+//! BYTE, SHORT, INT and LONG: the least, the greatest and the sum.
 use crate::fault::StatFault;
 use crate::measures::{Measures, Sizes};
 use crate::seen::Seen;
@@ -7,7 +7,7 @@ use crate::totals::{add_to, in_64, plus, total_of};
 use orc_values::Own;
 use std::alloc::Global;
 
-/// Of integers: least, greatest and sum.
+/// Measures of integers: the least, the greatest and the sum.
 #[derive(Clone, Copy, Debug)]
 pub struct Ints {
     least: Seen<i64>,

@@ -1,11 +1,11 @@
-//! STRUCT: nothing beside what every column has.
+//! STRUCT: only what every column has.
 use crate::fault::StatFault;
 use crate::measures::{Measures, Sizes};
 use crate::stat::Body;
 use orc_values::Own;
 use std::alloc::Global;
 
-/// Of structs: nothing.
+/// Measures of structs: none.
 #[derive(Clone, Copy, Debug)]
 pub struct Plain;
 

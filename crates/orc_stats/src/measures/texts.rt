@@ -1,4 +1,4 @@
-//! STRING: least and greatest, and the sum of lengths.
+//! STRING: the least and the greatest, and the sum of the lengths.
 use crate::fault::StatFault;
 use crate::measures::{Measures, Sizes};
 use crate::seen::Seen;
@@ -9,7 +9,7 @@ use crate::totals::{add_to, in_64, plus, total_of};
 use orc_values::Own;
 use std::alloc::Global;
 
-/// Of texts: least and greatest by their bytes, and the sum of their lengths.
+/// Measures of texts: the least and the greatest by their bytes, and the sum of their lengths in bytes.
 #[derive(Clone, Copy, Debug)]
 pub struct Texts<'r> {
     least: Seen<&'r [u8]>,
