@@ -214,7 +214,8 @@ pub fn seek_position<C: RunCodec>(
     ensures no_memory { IfErr result (λ fault. fault ≢ OutOfMemory) }
     // An error leaves `run` with no values.
     ensures empty { OnErr result (run.new.values ≡ []) }
-    // The count of decoded runs in `run` rises by 1, or by 0 if `pos.skip` is 0, whether the call succeeds or fails.
+    // If `pos` is the writer's position of a value in `bytes`, then the count of decoded runs in `run` rises by 1, or
+    // by 0 if `pos.skip` is 0, whether the call succeeds or fails.
     ensures count { run.new.count ≡ run.old.count + min 1 pos.skip }
 {
     C::seek(bytes, sign, pos, run)
@@ -249,7 +250,8 @@ pub fn byte_seek_position(bytes: &[u8], pos: Pos, run: &mut RunU8) -> Result<usi
     ensures no_memory { IfErr result (λ fault. fault ≢ OutOfMemory) }
     // An error leaves `run` with no values.
     ensures empty { OnErr result (run.new.values ≡ []) }
-    // The count of decoded runs in `run` rises by 1, or by 0 if `pos.skip` is 0, whether the call succeeds or fails.
+    // If `pos` is the writer's position of a value in `bytes`, then the count of decoded runs in `run` rises by 1, or
+    // by 0 if `pos.skip` is 0, whether the call succeeds or fails.
     ensures count { run.new.count ≡ run.old.count + min 1 pos.skip }
 {
     ByteRuns::seek(bytes, pos, run)
@@ -288,8 +290,8 @@ pub fn bit_seek_position(bytes: &[u8], pos: BitPos, run: &mut RunU8) -> Result<u
     ensures no_memory { IfErr result (λ fault. fault ≢ OutOfMemory) }
     // An error leaves `run` with no values.
     ensures empty { OnErr result (run.new.values ≡ []) }
-    // The count of decoded runs in `run` rises by 1, or by 0 if `pos.skip` and `pos.bits` are 0, whether the call
-    // succeeds or fails.
+    // If `bytes` are a stream of booleans and `pos` is the writer's position of one, then the count of decoded runs
+    // in `run` rises by 1, or by 0 if `pos.skip` and `pos.bits` are 0, whether the call succeeds or fails.
     ensures count { run.new.count ≡ run.old.count + min 1 (bytes_needed pos.skip pos.bits) }
 {
     BitRuns::seek(bytes, pos, run)

@@ -74,7 +74,8 @@ impl RunStart {
     /// Returns the position of value `n`, if that is in the run that begins here.
     pub fn position(self, n: usize) -> Pos
         requires { self.before ≤ n }
-        // The returned position has this start's offset and skips `n` minus `before` values.
+        // If at most `n` values come before the run, then the returned position has the run's offset and skips `n`
+        // minus `before` values.
         ensures { (result.offset ≡ self.offset) × (result.skip ≡ n - self.before) }
     {
         Pos {
@@ -86,8 +87,8 @@ impl RunStart {
     /// Returns the position of boolean `n`, if its byte `n / 8` is in the run that begins here.
     pub fn bit_position(self, n: usize) -> BitPos
         requires { self.before ≤ n / 8 }
-        // The returned position has this start's offset, and skips `n / 8` minus `before` bytes and then `n % 8`
-        // booleans.
+        // If at most `n / 8` bytes come before the run, then the returned position has the run's offset, and skips `n
+        // / 8` minus `before` bytes and then `n % 8` booleans.
         ensures { (result.offset ≡ self.offset) × (result.skip ≡ n / 8 - self.before) × (result.bits ≡ n % 8) }
     {
         BitPos {
@@ -107,16 +108,18 @@ pub fn run_start_at<C: RunCodec>(bytes: &[u8], sign: Sign, from: RunStart, n: us
     requires there { HasValues (C.is_run sign) bytes.now n }
     requires from { IsRunStart (C.is_run sign) bytes.now from }
     requires ahead { from.before ≤ n }
-    // The returned offset, with `n` minus the returned number of values before it as the skipped values, is the
-    // writer's position of value `n`.
+    // If `bytes` are a stream of at least `n` values, and `from` is the start of a run of it or its end, with at most
+    // `n` values before it, then the returned offset, with `n` minus the returned number of values before it as the
+    // skipped values, is the writer's position of value `n`.
     ensures place { IsWriterPosition (C.is_run sign) bytes.now result.offset (n - result.before) n }
-    // The returned place is the start of a run of `bytes` or their end, the returned number of values come before it,
-    // and the returned size is that of the run there, or 0.
+    // If `bytes` are a stream of at least `n` values, and `from` is the start of a run of it or its end, with at most
+    // `n` values before it, then the returned place is such a start or end, with the right number of values before
+    // it, and the returned size is that of the run there, or 0.
     ensures run_start { IsRunStart (C.is_run sign) bytes.now result }
-    // The returned number of values before the run is at most `n`.
+    // If `from` has at most `n` values before it, then the returned place has at most `n` values before it.
     ensures ahead { result.before ≤ n }
-    // The returned offset is the length of `bytes`, or value `n` is one of the returned run's values, by the returned
-    // number of them.
+    // The returned offset is the length of `bytes`, or the values before the returned place and those of its run, by
+    // the returned numbers of both, are more than `n`.
     ensures held { (result.offset ≡ length bytes.now) ⊎ (n - result.before < result.count) }
 {
     let mut run_start = from;
@@ -139,16 +142,18 @@ pub fn byte_run_start_at(bytes: &[u8], from: RunStart, n: usize) -> RunStart
     requires there { HasValues IsByteRun bytes.now n }
     requires from { IsRunStart IsByteRun bytes.now from }
     requires ahead { from.before ≤ n }
-    // The returned offset, with `n` minus the returned number of bytes before it as the skipped bytes, is the
-    // writer's position of byte `n`.
+    // If `bytes` are a stream of at least `n` bytes, and `from` is the start of a run of it or its end, with at most
+    // `n` bytes before it, then the returned offset, with `n` minus the returned number of bytes before it as the
+    // skipped bytes, is the writer's position of byte `n`.
     ensures place { IsWriterPosition IsByteRun bytes.now result.offset (n - result.before) n }
-    // The returned place is the start of a byte run of `bytes` or their end, the returned number of bytes come before
-    // it, and the returned size is that of the run there, or 0.
+    // If `bytes` are a stream of at least `n` bytes, and `from` is the start of a run of it or its end, with at most
+    // `n` bytes before it, then the returned place is such a start or end, with the right number of bytes before it,
+    // and the returned size is that of the run there, or 0.
     ensures run_start { IsRunStart IsByteRun bytes.now result }
-    // The returned number of bytes before the run is at most `n`.
+    // If `from` has at most `n` bytes before it, then the returned place has at most `n` bytes before it.
     ensures ahead { result.before ≤ n }
-    // The returned offset is the length of `bytes`, or byte `n` is one of the returned run's bytes, by the returned
-    // number of them.
+    // The returned offset is the length of `bytes`, or the bytes before the returned place and those of its run, by
+    // the returned numbers of both, are more than `n`.
     ensures held { (result.offset ≡ length bytes.now) ⊎ (n - result.before < result.count) }
 {
     let mut run_start = from;

@@ -61,8 +61,8 @@ pub fn join_all(alloc: Global, kind: StatKind, stats: &[Stat]) -> Result<Stat, S
     // greatest, the sum of the others. A part is unknown if no statistic has values, if it is unknown in one that has,
     // if a total doesn't fit 64 bits, or if more than 2^62 values are true.
     ensures found { IfOk result (λ s. s ≡ joined kind stats.now) }
-    // If each statistic's body is of `kind`, then `CountTooLarge` is returned exactly if the counts add up to more than
-    // 2^62. `OutOfMemory` comes only for the kind of STRING columns.
+    // If each statistic's body is of `kind`, then `CountTooLarge` is returned if and only if the counts add up to
+    // more than 2^62. `OutOfMemory` is the only other error and comes only for the kind of STRING columns.
     ensures most { OnOk result (sum_by (λ s. s.count) stats.now ≤ 2 ^ 62) }
     ensures fault { IfErr result (JoinFault (kind ≡ text_kind) stats.now) }
 {

@@ -72,25 +72,28 @@ pub trait Measures<'r>: Sizes + Sized + Drop {
     fn add_own(&mut self, own: Own<'r>)
         requires kind { is_of kind (own_cell own) ≡ true }
         requires room { Self.size self.old + 2 ^ 64 < 2 ^ 127 }
-        // The measures become the join of what they were before with the measures of the cell `own`.
+        // If the cell `own` is one of a column of this kind, and the size of the total is below 2^127 - 2^64, then
+        // the measures become the join of what they were before with the measures of that cell.
         ensures joined { parts self.new ≡ measure.joins.join (parts self.old) (measure.of_cell (own_cell own.entry)) }
-        // The size of the total grows by at most 2^64.
+        // If the cell `own` is one of a column of this kind, and the size of the total is below 2^127 - 2^64, then
+        // that size grows by at most 2^64.
         ensures size { Self.size self.new ≤ Self.size self.old + 2 ^ 64 };
 
     /// Returns the measures of the values that a statistic has counted.
     fn of_body(body: &'r Body) -> Self
         requires { body_is_of kind body.now ≡ true }
-        // The returned measures are those of the values that `body` was made of, as far as `body` knows them.
+        // If `body` is of this kind, then the returned measures are those that the kind keeps of `body`.
         ensures body { parts result ≡ measure.of_body body.now }
-        // The total of the returned measures has a size of at most 2^64.
+        // If `body` is of this kind, then the total of the returned measures has a size of at most 2^64.
         ensures size { Self.size result ≤ 2 ^ 64 };
 
     /// Returns the measures of the values of both.
     fn join(&self, other: &Self) -> Self
         requires { Self.size self.now + Self.size other.now < 2 ^ 127 }
-        // The returned measures are the join of both.
+        // If the sizes of both totals add up to less than 2^127, then the returned measures are the join of both.
         ensures joined { parts result ≡ measure.joins.join (parts self.now) (parts other.now) }
-        // The size of the returned total is at most the sum of the sizes of both totals.
+        // If the sizes of both totals add up to less than 2^127, then the size of the returned total is at most their
+        // sum.
         ensures size { Self.size result ≤ Self.size self.now + Self.size other.now };
 
     /// Returns the body of the statistic of all values that were counted.

@@ -31,9 +31,9 @@ impl Stat {
         // parts that the record of `kind` stores. If the message counts no values, each part is unknown, whatever the
         // record stores.
         ensures found { IfOk result (λ s. s ≡ stat_read kind message.now) }
-        // `CountTooLarge` is returned exactly if the message counts more than 2^62 values, or if `kind` is that of
-        // BOOLEAN columns, the message counts a value, and its record counts more than 2^62 true ones. `OutOfMemory`
-        // comes only for the kind of STRING columns.
+        // `CountTooLarge` is returned if and only if the message counts more than 2^62 values, or if `kind` is that
+        // of BOOLEAN columns, the message counts a value, and its record counts more than 2^62 true ones.
+        // `OutOfMemory` is the only other error and comes only for the kind of STRING columns.
         ensures limits { IfOk result (λ s. in_limits s ≡ true) }
         ensures fault { IfErr result (MessageFault kind message.now) }
     {

@@ -127,8 +127,9 @@ pub trait Tally<'r>: Sized + Drop {
         requires { All (λ s. body_is_of kind s.body ≡ true) stats.now }
         // If each statistic's body is of the tally's kind, then a returned statistic is the one that `stats` join to.
         ensures found { IfOk result (λ s. s ≡ joined kind stats.now) }
-        // If each statistic's body is of the tally's kind, then `CountTooLarge` is returned exactly if the counts add
-        // up to more than 2^62. `OutOfMemory` comes only if the statistics of the tally's kind take memory.
+        // If each statistic's body is of the tally's kind, then `CountTooLarge` is returned if and only if the counts
+        // add up to more than 2^62. `OutOfMemory` is the only other error and comes only if the statistics of the
+        // tally's kind take memory.
         ensures most { OnOk result (sum_by (λ s. s.count) stats.now ≤ 2 ^ 62) }
         ensures fault { IfErr result (JoinFault TakesMemory stats.now) }
     {

@@ -29,7 +29,7 @@ pub struct Field {
 #[cycle(widths)]
 pub fn width_of(tree: &Tree) -> usize
     requires { width (shape tree.now) < 2 ^ 64 }
-    // The returned number is the number of columns of the type, itself included.
+    // If a type has fewer than 2^64 columns, then the returned number is that of its columns, itself included.
     ensures { result ≡ width (shape tree.now) }
 {
     match tree {
@@ -57,7 +57,8 @@ fn widths_of(fields: &[Field]) -> usize
 pub fn tree_at(tree: &Tree, column: usize) -> &Tree
     requires few { width (shape tree.now) < 2 ^ 64 }
     requires there { column < width (shape tree.now) }
-    // The returned type is that of column `column` of the type's columns in pre-order.
+    // If a type has fewer than 2^64 columns and `column` is below their number, then the returned type is that of the
+    // column with this number in pre-order.
     ensures { shape result.now ≡ shape_at (shape tree.now) column }
 {
     if column == 0 {
