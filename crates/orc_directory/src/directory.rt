@@ -1,4 +1,4 @@
-//! A stripe's directory: whether its streams and its columns' encodings can be.
+//! The directory of a stripe: tests of its streams and of the encodings of its columns.
 ghost use Rattle.std.specs.Prelude.{◌≡◌, true, false, IfOk, IfErr, OnOk, ◌⊎◌};
 ghost use Rattle.orc_directory.specs.declared.fault.StripeFault.TheVariants.{BadDirectory, OutOfMemory};
 ghost use Rattle.orc_directory.specs.Directory as spec;
@@ -12,7 +12,7 @@ use orc_wire::{
 use std::alloc::Global;
 use std::collections::BTreeSet;
 
-/// Whether so many bytes have room for the streams.
+/// Returns whether the streams fit into `room` bytes.
 fn have_room(room: u64, streams: &[StreamMsg]) -> bool
     ensures { result ≡ spec.have_room room streams.now }
 {
@@ -26,8 +26,8 @@ fn have_room(room: u64, streams: &[StreamMsg]) -> bool
     true
 }
 
-/// Whether no kind is used twice for one column. It takes memory for the columns and kinds that the
-/// streams name, and looks each of them up among those before it.
+/// Returns whether no column has two streams of one kind. It takes memory for the columns and kinds that the streams
+/// name, and looks each of them up among those before it.
 fn names_once(alloc: Global, streams: &[StreamMsg]) -> Result<bool, StripeFault>
     ensures once { IfOk result (λ once. once ≡ spec.names_once streams.now) }
     ensures refused { IfErr result (λ fault. fault ≡ OutOfMemory) }
@@ -41,14 +41,14 @@ fn names_once(alloc: Global, streams: &[StreamMsg]) -> Result<bool, StripeFault>
     Ok(true)
 }
 
-/// Whether streams of this kind need a column that is there.
+/// Returns whether streams of this kind need a column that exists.
 fn needs_column(kind: u32) -> bool
     ensures { result ≡ spec.needs_column kind }
 {
     kind < CELL_KINDS || kind == ROW_INDEX
 }
 
-/// Whether the columns that are needed are there.
+/// Returns whether the columns that the streams need exist.
 fn have_columns(width: usize, streams: &[StreamMsg]) -> bool
     ensures { result ≡ spec.have_columns width streams.now }
 {
@@ -60,18 +60,27 @@ fn have_columns(width: usize, streams: &[StreamMsg]) -> bool
     true
 }
 
-/// Tests that the streams are a directory of so many columns and bytes.
+/// Tests that the streams are the directory of a stripe with `width` columns and `room` bytes of streams (ORC
+/// specification, "Stripe Footer").
+///
+/// # Errors
+///
+/// - `BadDirectory`, if the streams don't fit into the bytes, if a column has two streams of one kind, or if a stream
+///   belongs to a column that doesn't exist.
+/// - `OutOfMemory`.
 pub fn check_directory(
     alloc: Global,
     width: usize,
     room: u64,
     streams: &[StreamMsg],
 ) -> Result<(), StripeFault>
-    // Streams that are accepted are a directory: they fit into the bytes, none is named twice, and
-    // each that belongs to a column is of one that there is.
+    // If the call succeeds, then the streams are a directory: their lengths add up to at most `room`, no column
+    // number and kind are named twice, and each stream of a kind that belongs to a column has a column number below
+    // `width`.
     ensures accepted { OnOk result (spec.is_directory width room streams.now ≡ true) }
-    // They are refused with BadDirectory only where they are none, and else for want of memory
-    // alone.
+    // An error is `OutOfMemory`, or it is `BadDirectory` and the streams are no directory: their lengths add up to
+    // more than `room`, a column number and kind are named twice, or a stream of a kind that belongs to a column has
+    // no column number below `width`.
     ensures refused { IfErr result (λ fault. (fault ≡ OutOfMemory)
         ⊎ ((fault ≡ BadDirectory) × (spec.is_directory width room streams.now ≡ false))) }
 {
@@ -87,7 +96,7 @@ pub fn check_directory(
     Ok(())
 }
 
-/// Whether a column of the type may have the encoding.
+/// Returns whether a column of the type may have the encoding.
 fn takes_encoding(kind: u32, encoding: u32) -> bool
     ensures { result ≡ spec.takes_encoding kind encoding }
 {
@@ -97,10 +106,11 @@ fn takes_encoding(kind: u32, encoding: u32) -> bool
             && (encoding == DICTIONARY || encoding == DICTIONARY_V2))
 }
 
-/// The first column that has no encoding, or one that its type can't have.
+/// Returns the first column that has no encoding, or one that its type can't have (ORC specification, "Column
+/// Encodings").
 pub fn first_wrong(types: &[TypeMsg], encodings: &[Encoding]) -> Option<usize>
-    // What is answered is the first column without an encoding, or with one that its type can't
-    // have, or the place of the first encoding without a column; none where all are right.
+    // The call returns the number of the first column that has no encoding or one that its type can't have; if there
+    // is no such column, the number of columns if there are more encodings than columns, and else none.
     ensures { result ≡ spec.first_wrong 0 types.now encodings.now }
 {
     for (i, t) in types.iter().enumerate() {

@@ -1,4 +1,4 @@
-//! Why bytes are no stripe.
+//! Errors of stripes.
 ghost use Rattle.std.specs.Prelude.{◌≡◌, ◌≢◌, ◌⊎◌};
 ghost use Rattle.orc_directory.specs.declared.fault.StripeFault.TheVariants as fault;
 ghost use Rattle.orc_wire.specs.declared.fault.WireFault.TheVariants as wire;
@@ -22,54 +22,54 @@ pub enum StreamKind {
     DictionaryData,
 }
 
-/// What of a stripe's index a fault speaks of.
+/// The part of a stripe's index that an error is about.
 #[derive(Clone, Copy, Debug, PartialEq, Eq, Error)]
 pub enum Spot {
     /// The stripe, whatever the column.
     #[error("")]
     Stripe,
-    /// A column, by its number.
+    /// The column with this number.
     #[error("({0})")]
     Column(usize),
-    /// A stream of a column.
+    /// A stream of the column with this number.
     #[error("({0}, {1})")]
     Stream(usize, StreamKind),
 }
 
-/// Why bytes are no stripe, with the number of the column, and the stream where one is concerned.
+/// Why bytes are no stripe. An error has the number of the column and the stream, if it is about one.
 #[derive(Clone, Copy, Debug, PartialEq, Eq, Error)]
 pub enum StripeFault {
-    /// The bytes aren't as many as the three lengths say, or the directory's streams don't lie in the
-    /// stripe, or one is named twice, or has no column.
+    /// The number of bytes isn't the sum of the stripe's three lengths; or the streams of the directory don't fit
+    /// into the stripe, one is named twice, or one belongs to a column that doesn't exist.
     #[error("stripe 1 BadDirectory")]
     BadDirectory,
     /// The column has no encoding, or one that its type can't have.
     #[error("stripe 2 BadEncoding({0})")]
     BadEncoding(usize),
-    /// The stream has no such runs.
+    /// The stream doesn't have the runs that are needed.
     #[error("stripe 3 Run({0}, {1}): {2}")]
     Run(usize, StreamKind, RunFault),
-    /// A text is no UTF-8.
+    /// A text is not UTF-8.
     #[error("stripe 4 NotUtf8({0}, {1})")]
     NotUtf8(usize, StreamKind),
-    /// An index is not below the dictionary's size.
+    /// An index is not below the size of the dictionary.
     #[error("stripe 5 BadIndex({0})")]
     BadIndex(usize),
-    /// A stream of bytes has another length than its LENGTHs say.
+    /// A stream of bytes doesn't have the length that its LENGTHs add up to.
     #[error("stripe 6 LengthSum({0}, {1})")]
     LengthSum(usize, StreamKind),
-    /// Rows have no index, or the column has none.
+    /// The rows have no index, or the column has none.
     #[error("stripe 7 NoIndex{0}")]
     NoIndex(Spot),
-    /// There is no such group, or an index has another number of entries than there are groups, or an entry
-    /// another number of positions than its column has, or a position lies outside of its stream.
+    /// There is no such group; or an index doesn't have one entry for each group, an entry doesn't have the number of
+    /// positions of its column, or a position lies outside of its stream.
     #[error("stripe 8 BadPosition{0}")]
     BadPosition(Spot),
-    /// The footer is no message, or the index of a column is none.
+    /// The footer, or the index of a column, is not a valid message.
     #[error("stripe 9 Wire: {0}")]
     Wire(WireFault),
-    /// There are more rows than a column may have cells (column 0), or more elements in the column's lists, or pairs in
-    /// its maps.
+    /// There are more rows than a column may have cells (column 0), or the lists or maps of the column have more
+    /// elements or pairs than that.
     #[error("stripe 10 TooMany({0})")]
     TooMany(usize),
     /// Memory ran out.

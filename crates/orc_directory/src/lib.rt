@@ -1,4 +1,4 @@
-//! A stripe's directory: which streams a stripe has and where they lie, and why bytes are no stripe.
+//! The directory of a stripe: which streams the stripe has, where they lie, and the errors of stripes.
 #![tactic(auto)]
 
 mod directory;

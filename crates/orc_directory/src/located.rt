@@ -1,4 +1,4 @@
-//! Where the streams of a stripe's columns stand in its bytes.
+//! Where the streams of a stripe's columns lie in its bytes.
 ghost use Rattle.std.specs.Prelude.{◌≡◌, ◌*◌, ◌+◌, ◌<◌, length, true, IfOk, IfErr};
 ghost use Rattle.orc_directory.specs.declared.fault.StripeFault.TheVariants.{OutOfMemory};
 ghost use Rattle.orc_directory.specs.Directory as spec;
@@ -9,7 +9,7 @@ use crate::fault::StripeFault;
 use orc_wire::{CELL_KINDS, StreamMsg, StripeFooter};
 use std::alloc::Global;
 
-/// How many streams a column may be read from: PRESENT, DATA, LENGTH and DICTIONARY_DATA.
+/// How many streams may store the cells of a column: PRESENT, DATA, LENGTH and DICTIONARY_DATA.
 const KINDS: usize = CELL_KINDS as usize;
 
 /// The bytes of one stream.
@@ -18,8 +18,8 @@ pub struct Slice<'a> {
     pub bytes: &'a [u8],
 }
 
-/// A stripe's bytes, and in them the streams of each column: four for each, in the order of their kinds,
-/// empty where there is none.
+/// The bytes of a stripe, and in them the streams of each column: four for each column, in the order of their kinds,
+/// empty if there is none.
 #[derive(Drop)]
 pub struct Located<'a> {
     pub bytes: &'a [u8],
@@ -27,18 +27,18 @@ pub struct Located<'a> {
 }
 
 impl<'a> Located<'a> {
-    /// The bytes of the column's stream of one of the four kinds.
+    /// Returns the bytes of the column's stream of one of the four kinds.
     pub fn stream(&self, column: usize, kind: u32) -> &'a [u8]
         requires there { CELL_KINDS * column + kind < length self.now.slices.items }
-        // Where the column was looked for, and the kind is one of the four, the stream's bytes are
-        // answered as they were found.
+        // If four times `column`, plus `kind`, is below the number of slices, then the returned bytes are those of
+        // the slice with that number.
         ensures { result.now ≡ stream_at self.now.slices.items column kind }
     {
         self.slices[KINDS * column + kind as usize].bytes
     }
 }
 
-/// Keeps the bytes of a stream, if a column is read from it.
+/// Keeps the bytes of a stream, if it stores cells of a column.
 fn keep<'a>(slices: &mut Vec<Slice<'a>>, columns: usize, stream: &StreamMsg, bytes: &'a [u8])
     requires len { length slices.old.items ≡ CELL_KINDS * columns }
     ensures { LocatesNext columns stream.now bytes.now slices.old.items slices.new.items }
@@ -51,6 +51,10 @@ fn keep<'a>(slices: &mut Vec<Slice<'a>>, columns: usize, stream: &StreamMsg, byt
 }
 
 /// Finds the streams of all columns, in one pass over the directory.
+///
+/// # Errors
+///
+/// `OutOfMemory`.
 pub fn locate<'a>(
     alloc: Global,
     footer: &StripeFooter,
@@ -58,13 +62,14 @@ pub fn locate<'a>(
 ) -> Result<Located<'a>, StripeFault>
     requires room { spec.have_room (length bytes.now) footer.now.streams ≡ true }
     requires once { spec.names_once footer.now.streams ≡ true }
-    // Where the directory's streams fit into the bytes and none is named twice, each column has its
-    // four streams as the directory gives them, empty where it gives none.
+    // If the footer's streams fit into `bytes` and none is named twice, then for each column with an encoding in the
+    // footer, the four slices found have the bytes of its streams, as these lie one after the other in `bytes`; a
+    // slice is empty if the footer names no such stream.
     ensures found { IfOk result
         (λ located. AreLocated (length footer.now.columns) footer.now.streams bytes.now located.slices.items) }
-    // The stripe's bytes are kept beside them.
+    // The bytes that are returned beside the slices are `bytes`.
     ensures same { IfOk result (λ located. located.bytes.now ≡ bytes.now) }
-    // Want of memory is the only refusal.
+    // The only error is `OutOfMemory`.
     ensures refused { IfErr result (λ fault. fault ≡ OutOfMemory) }
 {
     let columns = footer.columns.as_slice().len();

@@ -1,4 +1,4 @@
--- The groups of rows that row indexes tell of, and the cells that each column has of them (ORC specification,
+-- The groups of rows for which row indexes have entries, and the cells of each column in them (ORC specification,
 -- "Row Group Index").
 use Rattle.std.specs.Prelude.{◌≡◌, ℕ, ◌+◌, ◌*◌, ◌/◌, ◌%◌, ◌<◌, min, List, length, map, take}
 use Rattle.std.specs.List.{range_with_len, flat_map}
@@ -6,7 +6,7 @@ use Rattle.orc_values.specs.Cells.{Cell, keys_in, values_in, values}
 use Rattle.orc_values.specs.Columns.{cells, cells_within}
 use Rattle.orc_values.specs.Shapes.{Shape, Fields, width, widths}
 
--- how many groups so many rows have: each begins with a multiple of the stride
+-- how many groups the rows have: each group begins with a multiple of the stride
 abbrev pub group_count : ℕ → ℕ → ℕ
 group_count stride rows = rows / stride + min 1 (rows % stride)
 
@@ -22,22 +22,22 @@ cells_before s c rows start = length (cells s c (take start rows))
 abbrev pub bounds_of : Shape → ℕ → List Cell → List ℕ → List ℕ
 bounds_of s c rows firsts = map (cells_before s c rows) firsts
 
--- the same of a column of the fields of structs, each struct a list of cells
+-- how many cells of a column of the fields of structs come before each group; each struct is a list of cells
 abbrev pub bounds_within : Fields → ℕ → List (List Cell) → List ℕ → List ℕ
 bounds_within fs c structs firsts = map (λ start. length (cells_within fs c (take start structs))) firsts
 
--- the groups of the columns of s from number c on are those of t over these cells, with these bounds
+-- the groups of the columns of s from number c on are those of the columns of t over these cells, with these bounds
 abbrev pub AreGroupsFrom : Shape → List Cell → List ℕ → ℕ → Shape → List Cell → List ℕ → Type 0
 AreGroupsFrom s rows firsts c t column bounds =
     (d : ℕ) → d < width t → bounds_of s (c + d) rows firsts ≡ bounds_of t d column bounds
 
--- the same of the keys of maps, and behind them of their values
+-- the groups of the columns of s from number c on are those of the keys of maps, and then those of their values
 abbrev pub ArePairGroupsFrom : Shape → List Cell → List ℕ → ℕ → Shape → Shape → List Cell → List ℕ → Type 0
 ArePairGroupsFrom s rows firsts c k v maps bounds =
     AreGroupsFrom s rows firsts c k (flat_map keys_in (values maps)) bounds
     × AreGroupsFrom s rows firsts (c + width k) v (flat_map values_in (values maps)) bounds
 
--- the same of the fields of structs
+-- the groups of the columns of s from number c on are those of the fields of structs
 abbrev pub AreFieldGroupsFrom : Shape → List Cell → List ℕ → ℕ → Fields → List (List Cell) → List ℕ → Type 0
 AreFieldGroupsFrom s rows firsts c fs structs bounds =
     (d : ℕ) → d < widths fs → bounds_of s (c + d) rows firsts ≡ bounds_within fs d structs bounds

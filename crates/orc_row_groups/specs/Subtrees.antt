@@ -1,4 +1,4 @@
--- A part of a type's columns as the columns of the type at its root, with the cells of that one (ORC
+-- The columns of a part of a type, as the columns of the type at the root of that part, over its cells (ORC
 -- specification, "Types": columns are numbered in pre-order).
 use Rattle.std.specs.Prelude.{◌≡◌, ℕ, ◌+◌, ◌<◌, List, true}
 use Rattle.std.specs.List.{AllByRecursion, flat_map}
@@ -12,18 +12,18 @@ abbrev pub AreColumnsFrom : Shape → List Cell → ℕ → Shape → List Cell 
 AreColumnsFrom s rows c t column =
     (d : ℕ) → d < width t → (shape_at s (c + d) ≡ shape_at t d) × (cells s (c + d) rows ≡ cells t d column)
 
--- the same of the keys of maps, and behind them of their values
+-- the columns of s from number c on are those of the keys of maps, and then those of their values
 abbrev pub ArePairsFrom : Shape → List Cell → ℕ → Shape → Shape → List Cell → Type 0
 ArePairsFrom s rows c k v maps =
     AreColumnsFrom s rows c k (flat_map keys_in (values maps))
     × AreColumnsFrom s rows (c + width k) v (flat_map values_in (values maps))
 
--- the same of the fields of structs, each struct a list of cells
+-- the columns of s from number c on are those of the fields of structs; each struct is a list of cells
 abbrev pub AreFieldsFrom : Shape → List Cell → ℕ → Fields → List (List Cell) → Type 0
 AreFieldsFrom s rows c fs structs =
     (d : ℕ) → d < widths fs
     → (shape_at s (c + d) ≡ shape_within fs d) × (cells s (c + d) rows ≡ cells_within fs d structs)
 
--- each struct has a cell of each field
+-- each struct has one cell for each field, which fits it
 abbrev pub FieldsFit : Fields → List (List Cell) → Type 0
 FieldsFit fs structs = AllByRecursion (λ x. each_fits (cells_of x) fs ≡ true) structs

@@ -1,4 +1,4 @@
-//! The bounds of groups, one level down the schema.
+//! The bounds of groups, one level down in the schema.
 ghost use Rattle.std.specs.Prelude.{◌≡◌, ◌<◌, ◌^◌, map, length, IfOk};
 ghost use Rattle.std.specs.List.{flat_map};
 ghost use Rattle.orc_values.specs.Cells.{parts, pairs_in, values};
@@ -10,7 +10,7 @@ use crate::between::owns_between;
 use orc_values::Own;
 use std::alloc::{AllocError, Global};
 
-/// How many elements a list has, and none another cell.
+/// Returns how many elements a list has; any other cell has none.
 fn element_count(own: Own<'_>) -> usize
     ensures { result ≡ length (parts (own_cell own.entry)) }
 {
@@ -20,7 +20,7 @@ fn element_count(own: Own<'_>) -> usize
     }
 }
 
-/// How many elements the lists among the cells have.
+/// Returns how many elements the lists among the cells have.
 fn count_elements(owns: &[Own<'_>]) -> usize
     requires { length (flat_map parts (values (own_cells owns.now))) < 2 ^ 64 }
     ensures { result ≡ length (flat_map parts (values (own_cells owns.now))) }
@@ -32,7 +32,7 @@ fn count_elements(owns: &[Own<'_>]) -> usize
     count
 }
 
-/// How many pairs a map has, and none another cell.
+/// Returns how many pairs a map has; any other cell has none.
 fn pair_count(own: Own<'_>) -> usize
     ensures { result ≡ length (pairs_in (own_cell own.entry)) }
 {
@@ -42,7 +42,7 @@ fn pair_count(own: Own<'_>) -> usize
     }
 }
 
-/// How many pairs the maps among the cells have.
+/// Returns how many pairs the maps among the cells have.
 fn count_pairs(owns: &[Own<'_>]) -> usize
     requires { length (flat_map pairs_in (values (own_cells owns.now))) < 2 ^ 64 }
     ensures { result ≡ length (flat_map pairs_in (values (own_cells owns.now))) }
@@ -54,7 +54,7 @@ fn count_pairs(owns: &[Own<'_>]) -> usize
     count
 }
 
-/// How many of the cells are not null.
+/// Returns how many of the cells are not null.
 fn count_values(owns: &[Own<'_>]) -> usize
     ensures { result ≡ length (values (own_cells owns.now)) }
 {
@@ -67,10 +67,12 @@ fn count_values(owns: &[Own<'_>]) -> usize
     count
 }
 
-/// The bounds of the same groups in the column of a list's elements: of a group, how many elements the lists
-/// before it have (ORC specification, "Column Encodings"). The cells are given as their own column says them.
+/// Returns the bounds of the same groups in the column of a list's elements: for each group, how many elements the
+/// lists before it have (ORC specification, "Column Encodings"). The cells are given without their children.
 ///
-/// Refusal: want of memory.
+/// # Errors
+///
+/// `AllocError`, if there is no memory.
 pub fn element_bounds(
     alloc: Global,
     owns: &[Own<'_>],
@@ -78,8 +80,9 @@ pub fn element_bounds(
 ) -> Result<Vec<usize>, AllocError>
     requires bounds { AreBounds (length (own_cells owns.now)) bounds.now }
     requires few { length (flat_map parts (values (own_cells owns.now))) < 2 ^ 64 }
-    // Where bounds are those of the cells, and their lists have fewer than 2^64 elements, each
-    // becomes how many elements the lists before its group have, unless memory is refused.
+    // If no bound is below the one before it or above the number of cells, and the lists among the cells have fewer
+    // than 2^64 elements in all, then a returned bound is, for each of `bounds` in order, how many elements the lists
+    // among the cells before it have.
     ensures { IfOk result (λ found. found.items ≡ map (elements_before (own_cells owns.now)) bounds.now) }
 {
     let mut found = Vec::new(alloc);
@@ -93,10 +96,12 @@ pub fn element_bounds(
     Ok(found)
 }
 
-/// The bounds of the same groups in the columns of a map's keys and of its values: of a group, how many pairs the
-/// maps before it have (ORC specification, "Column Encodings"). The cells are given as their own column says them.
+/// Returns the bounds of the same groups in the columns of a map's keys and values: for each group, how many pairs
+/// the maps before it have (ORC specification, "Column Encodings"). The cells are given without their children.
 ///
-/// Refusal: want of memory.
+/// # Errors
+///
+/// `AllocError`, if there is no memory.
 pub fn pair_bounds(
     alloc: Global,
     owns: &[Own<'_>],
@@ -104,8 +109,9 @@ pub fn pair_bounds(
 ) -> Result<Vec<usize>, AllocError>
     requires bounds { AreBounds (length (own_cells owns.now)) bounds.now }
     requires few { length (flat_map pairs_in (values (own_cells owns.now))) < 2 ^ 64 }
-    // Where bounds are those of the cells, and their maps have fewer than 2^64 pairs, each becomes
-    // how many pairs the maps before its group have, unless memory is refused.
+    // If no bound is below the one before it or above the number of cells, and the maps among the cells have fewer
+    // than 2^64 pairs in all, then a returned bound is, for each of `bounds` in order, how many pairs the maps among
+    // the cells before it have.
     ensures { IfOk result (λ found. found.items ≡ map (pairs_before (own_cells owns.now)) bounds.now) }
 {
     let mut found = Vec::new(alloc);
@@ -119,18 +125,20 @@ pub fn pair_bounds(
     Ok(found)
 }
 
-/// The bounds of the same groups in the column of a struct's field: of a group, how many structs before it are
-/// not null (ORC specification, "Column Encodings"). The cells are given as their own column says them.
+/// Returns the bounds of the same groups in the column of a struct's field: for each group, how many structs before
+/// it are not null (ORC specification, "Column Encodings"). The cells are given without their children.
 ///
-/// Refusal: want of memory.
+/// # Errors
+///
+/// `AllocError`, if there is no memory.
 pub fn field_bounds(
     alloc: Global,
     owns: &[Own<'_>],
     bounds: &[usize],
 ) -> Result<Vec<usize>, AllocError>
     requires { AreBounds (length (own_cells owns.now)) bounds.now }
-    // Where bounds are those of the cells, each becomes how many cells before its group are not
-    // null, unless memory is refused.
+    // If no bound is below the one before it or above the number of cells, then a returned bound is, for each of
+    // `bounds` in order, how many of the cells before it are not null.
     ensures { IfOk result (λ found. found.items ≡ map (values_before (own_cells owns.now)) bounds.now) }
 {
     let mut found = Vec::new(alloc);

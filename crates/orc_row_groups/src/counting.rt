@@ -9,7 +9,7 @@ ghost use Rattle.orc_row_groups.specs.Counts.{octets, octets_in, most};
 use crate::counts::Counts;
 use orc_values::{Lent, Own, own_of};
 
-/// How many bytes a text has, or a byte string; 0 of other cells.
+/// Returns how many bytes a text or a byte string has, and 0 for any other cell.
 fn octets_of(own: Own<'_>) -> usize
     ensures { result ≡ octets_in (own_cell own.entry) }
 {
@@ -20,7 +20,7 @@ fn octets_of(own: Own<'_>) -> usize
     }
 }
 
-/// Whether the cell is a value, as a number.
+/// Returns 1 for a value and 0 for null.
 fn value_of(own: Own<'_>) -> usize
     ensures { result ≡ length (values (own_cell own.entry ∷ [])) }
 {
@@ -28,15 +28,15 @@ fn value_of(own: Own<'_>) -> usize
 }
 
 impl Counts {
-    /// The counts with one cell more, as its own column says it.
+    /// Returns the counts with one more cell, which is given without its children.
     pub fn add_own(self, own: Own<'_>) -> Counts
         requires cells { self.cells + 1 < 2 ^ 64 }
         requires values { self.values + 1 < 2 ^ 64 }
-        // Where the counts stay below 2^64, one cell more is counted, and one value more where it
-        // is not null.
+        // If both counts stay below 2^64, then one more cell is counted, and one more value if the cell is not null.
         ensures cells { result.cells ≡ self.cells + 1 }
         ensures values { result.values ≡ self.values + length (values (own_cell own.entry ∷ [])) }
-        // The bytes of a text or a byte string are added to those before, up to 2^64 - 1.
+        // The number of bytes of the cell, if it is a text or a byte string, is added to the count of bytes, which
+        // stops at 2^64 - 1.
         ensures octets { result.octets ≡ min most (self.octets + octets_in (own_cell own.entry)) }
     {
         Counts {
@@ -47,15 +47,16 @@ impl Counts {
     }
 }
 
-/// The counts of some cells and of these behind them, by the counts of the first.
+/// Returns the counts of cells that were counted before and of more cells after them.
 pub fn counts_after(before: Counts, cells: &[Lent<'_, '_>]) -> Counts
     requires cells { before.cells + length cells.now < 2 ^ 64 }
     requires values { before.values + length cells.now < 2 ^ 64 }
-    // Where the counts stay below 2^64, the cells are counted behind those before: all of them, and
-    // those that are not null.
+    // If the number of `cells` can be added to both counts below 2^64, then all `cells` are added to the count of
+    // cells, and those that are not null to the count of values.
     ensures cells { result.cells ≡ before.cells + length (lent_cells cells.now) }
     ensures values { result.values ≡ before.values + length (values (lent_cells cells.now)) }
-    // The bytes of the texts and byte strings among them are added, up to 2^64 - 1.
+    // The number of bytes that the texts and byte strings among `cells` have is added to the count of bytes, which
+    // stops at 2^64 - 1.
     ensures octets { result.octets ≡ min most (before.octets + octets (lent_cells cells.now)) }
 {
     let mut counts = before;
@@ -65,14 +66,17 @@ pub fn counts_after(before: Counts, cells: &[Lent<'_, '_>]) -> Counts
     counts
 }
 
-/// The counts of some cells and of these behind them, as their own column says these, by the counts of the first.
+/// Returns the counts of cells that were counted before and of more cells after them, which are given without their
+/// children.
 pub fn counts_behind(before: Counts, owns: &[Own<'_>]) -> Counts
     requires cells { before.cells + length owns.now < 2 ^ 64 }
     requires values { before.values + length owns.now < 2 ^ 64 }
-    // If the counts stay below 2^64, the cells are counted behind those before: all of them, and those that aren't null.
+    // If the number of `owns` can be added to both counts below 2^64, then all of them are added to the count of
+    // cells, and those that are not null to the count of values.
     ensures cells { result.cells ≡ before.cells + length (own_cells owns.now) }
     ensures values { result.values ≡ before.values + length (values (own_cells owns.now)) }
-    // The bytes of the texts and byte strings among them are added, up to 2^64 - 1.
+    // The number of bytes that the texts and byte strings among `owns` have is added to the count of bytes, which
+    // stops at 2^64 - 1.
     ensures octets { result.octets ≡ min most (before.octets + octets (own_cells owns.now)) }
 {
     let mut counts = before;

@@ -1,22 +1,22 @@
-//! What is counted of a column's cells before a group.
+//! What is counted of the cells of a column before a group.
 ghost use Rattle.std.specs.Prelude.{◌≡◌};
 
-/// How many cells there are, how many of them are not null, and how many bytes the texts and byte strings
-/// among them have, which are counted up to 2^64 - 1.
+/// The number of cells, of those that are not null, and of the bytes of the texts and byte strings among them, which
+/// are counted up to 2^64 - 1.
 #[derive(Clone, Copy)]
 pub struct Counts {
-    /// The cells.
+    /// How many cells there are.
     pub cells: usize,
-    /// Those that are not null.
+    /// How many of the cells are not null.
     pub values: usize,
-    /// The bytes of their texts and byte strings.
+    /// How many bytes their texts and byte strings have, or 2^64 - 1 if there are more.
     pub octets: usize,
 }
 
 impl Counts {
-    /// Those of no cells.
+    /// Returns the counts of no cells.
     pub fn none() -> Counts
-        // Of no cells all three counts are 0.
+        // All three returned counts are 0.
         ensures { (result.cells ≡ 0) × (result.values ≡ 0) × (result.octets ≡ 0) }
     {
         Counts {

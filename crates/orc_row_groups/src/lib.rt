@@ -1,4 +1,5 @@
-//! Row groups: where they begin in the rows and in each column below, and what is counted of a column's cells.
+//! Row groups: where they begin in the rows and in each column below, and what is counted of a column's cells before
+//! them.
 #![tactic(auto)]
 
 mod between;

@@ -1,16 +1,19 @@
-//! The rows with which groups begin.
+//! The row with which each group begins.
 ghost use Rattle.std.specs.Prelude.{◌≡◌, ◌<◌, IfOk};
 ghost use Rattle.orc_row_groups.specs.Groups.{starts_of_groups};
 
 use std::alloc::{AllocError, Global};
 
-/// How many rows come before each group: a group begins each `stride` rows (ORC specification, "Row Group Index").
+/// Returns how many rows come before each group: a group begins every `stride` rows (ORC specification, "Row Group
+/// Index").
 ///
-/// Refusal: want of memory.
+/// # Errors
+///
+/// `AllocError`, if there is no memory.
 pub fn group_starts(alloc: Global, stride: usize, rows: usize) -> Result<Vec<usize>, AllocError>
     requires { 0 < stride }
-    // Where the stride is above 0, the answer is how many rows come before each group: each
-    // multiple of the stride below the number of rows, in order, unless memory is refused.
+    // If `stride` is above 0, then the returned numbers are the multiples of `stride` below `rows`, in order, which
+    // is how many rows come before each group.
     ensures { IfOk result (λ found. found.items ≡ starts_of_groups stride rows) }
 {
     let mut found = Vec::new(alloc);
