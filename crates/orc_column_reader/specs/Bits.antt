@@ -5,8 +5,8 @@ use Rattle.orc_rle.specs.BitStream.{digit}
 use Rattle.orc_column_reader.specs.declared.bits.Bits.{Bits}
 use Rattle.orc_column_reader.specs.Bytes.{BytesLeft, BytesFirst}
 
--- Those that a reader has still to give: the digits that are left of the byte that it holds, and those of the bytes
--- after it, but for fewer than eight at the end, which are spare.
+-- The booleans that a reader still has to give are the digits that are left of the byte that it holds, and those of
+-- the bytes after it, except for fewer than eight spare ones at the end.
 pub record BitsLeft (r : Bits) (all : List Bool) : Type 0 where
   pub packed : List ℕ
   pub spelled : BytesLeft r.bytes packed
@@ -14,7 +14,7 @@ pub record BitsLeft (r : Bits) (all : List Bool) : Type 0 where
   pub few : length spare < 8
   pub digits_are : bits r.held r.left ++ digits 8 packed ≡ map digit all ++ spare
 
--- Those that it gives first, whatever becomes of the others.
+-- the booleans that a reader gives first, whatever follows
 pub record BitsFirst (r : Bits) (bools : List Bool) : Type 0 where
   pub packed : List ℕ
   pub bytes : BytesFirst r.bytes packed

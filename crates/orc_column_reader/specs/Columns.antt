@@ -1,4 +1,4 @@
--- What is left of a column, by its kind (ORC specification, "Column Encodings").
+-- What is left of the streams of a column, by its kind (ORC specification, "Column Encodings").
 use Rattle.std.specs.Prelude.{◌≡◌, ℕ, ◌-◌, ◌<◌, nat_lt, if◌then◌else◌, ℤ, pos, negsuc, Bool, true, Option, Some, None, List, [], ◌∷◌, length, replicate, map, take, drop, slice_get}
 use Rattle.std.specs.Str.{is_utf8}
 use Rattle.std.specs.List.{AllByRecursion}
@@ -19,75 +19,75 @@ use Rattle.orc_column_reader.specs.Bits.{BitsLeft, BitsFirst}
 use Rattle.orc_column_reader.specs.Bytes.{BytesLeft}
 use Rattle.orc_column_reader.specs.Octets.{OctetsLeft}
 
--- without PRESENT nothing is null
+-- the marks that are left; without PRESENT none of them is null
 abbrev pub MarksLeft : Option Bits → List Bool → Type 0
 MarksLeft None all = all ≡ replicate (length all) true
 MarksLeft (Some bits) all = BitsLeft bits all
 
--- marks that come first, whatever becomes of the others
+-- the marks that come first, whatever follows
 abbrev pub MarksFirst : Option Bits → List Bool → Type 0
 MarksFirst None marks = marks ≡ replicate (length marks) true
 MarksFirst (Some bits) marks = BitsFirst bits marks
 
--- the cell of a column of booleans
+-- the value of a column of booleans
 abbrev pub IsBool : Bool → Cell → Type 0
 IsBool b c = c ≡ leaf (bool b)
 
--- the number of 8 bits that a byte stands for; the highest digit has its sign
+-- the number of 8 bits that a byte stands for; its highest digit is the sign
 abbrev pub signed_byte : ℕ → ℤ
 signed_byte b = if nat_lt b 128 then pos b else negsuc (255 - b)
 
--- the cell of a column of TINYINT: a byte, in two's complement
+-- the value of a column of TINYINT: a byte, in two's complement
 abbrev pub IsByte : ℕ → Cell → Type 0
 IsByte b c = (b < 256) × (c ≡ leaf (int (signed_byte b)))
 
--- a number of the kind's range
+-- the value of a column of whole numbers, which is in the range of the kind
 abbrev pub IsInt : Scalar → ℤ → Cell → Type 0
 IsInt k n c = (int_fits k n ≡ true) × (c ≡ leaf (int n))
 
--- the cell of a column of dates: days since 1970-01-01, in 32 bits
+-- the value of a column of dates: days since 1970-01-01, in 32 bits
 abbrev pub IsDate : ℤ → Cell → Type 0
 IsDate n c = (signed_fits 31 n ≡ true) × (c ≡ leaf (date n))
 
--- the cell of a column of strings, which are UTF-8
+-- the value of a column of texts, which are UTF-8
 abbrev pub IsText : List ℕ → Cell → Type 0
 IsText bs c = (is_utf8 bs ≡ true) × (c ≡ leaf (text bs))
 
--- the cell of a column of byte strings
+-- the value of a column of byte strings
 abbrev pub IsBinary : List ℕ → Cell → Type 0
 IsBinary bs c = (are_bytes bs ≡ true) × (c ≡ leaf (bytes bs))
 
--- the cell of a column of texts in a dictionary: the text that is the entry of this index
+-- the value of a column of texts in a dictionary: the text of the entry with this index
 abbrev pub IsEntry : List (List ℕ) → ℤ → Cell → Type 0
 IsEntry entries (pos i) c = (entry : List ℕ) × (slice_get entries i ≡ Some entry) × IsText entry c
 IsEntry entries (negsuc i) c = ⊥
 
--- the cell of a column of lists: its elements in order
+-- the value of a column of lists: its elements, in order
 abbrev pub IsList : List Cell → Cell → Type 0
 IsList cs c = c ≡ list (cells_of cs)
 
--- the cell of a column of maps: its pairs in order
+-- the value of a column of maps: its pairs, in order
 abbrev pub IsMap : List (Cell × Cell) → Cell → Type 0
 IsMap ps c = c ≡ pairs (pairs_of ps)
 
--- the cell of a column of structs: a cell for each field
+-- the value of a column of structs: one cell for each field
 abbrev pub IsRecord : List Cell → Cell → Type 0
 IsRecord cs c = c ≡ struct (cells_of cs)
 
--- bytes of the sizes that LENGTH has
+-- the byte strings that are left, with their lengths in LENGTH
 abbrev pub StringsLeft : ValueSource → List (List ℕ) → Type 0
 StringsLeft source byte_strings = Sized (NumbersLeft source.numbers) (OctetsLeft source.octets) byte_strings
 
--- a dictionary's entry as its bytes
+-- the bytes of a dictionary's entry
 abbrev pub entry_bytes : Entry → List ℕ
 entry_bytes e = e.bytes.now
 
--- the texts that a reader has still to give: of its own bytes, or named in its dictionary
+-- the texts that are left: in plain bytes, or named in the dictionary
 abbrev pub TextsLeft : Option (Vec Entry Global) → ValueSource → List Cell → Type 0
 TextsLeft None source vs = Standing IsText (StringsLeft source) vs
 TextsLeft (Some entries) source vs = Standing (IsEntry (map entry_bytes entries.items)) (NumbersLeft source.numbers) vs
 
--- the values of a column of a kind that contains no other
+-- the values that are left of a column whose kind contains no other type
 abbrev pub ScalarLeft : Scalar → ValueSource → List Cell → Type 0
 ScalarLeft kind.Boolean source vs = Standing IsBool (BitsLeft source.bits) vs
 ScalarLeft kind.Byte source vs = Standing IsByte (BytesLeft source.bytes) vs
@@ -98,14 +98,14 @@ ScalarLeft kind.Date source vs = Standing IsDate (NumbersLeft source.numbers) vs
 ScalarLeft kind.Binary source vs = Standing IsBinary (StringsLeft source) vs
 ScalarLeft kind.String source vs = TextsLeft source.entries source vs
 
--- the cells of a column, whose values are spelled so
+-- the cells that are left of a column, if its values that are left are those of `found`
 abbrev pub ColumnLeft : (ValueSource → List ColumnReader → List Cell → Type 0) → List ColumnReader → List Cell → Type 0
 ColumnLeft found [] cells = ⊥
 ColumnLeft found (own ∷ below) cells = Nullable (MarksLeft own.present) (found own.source below) cells
 
 abbrev mutual
-  -- the values of a column: lists of the child's cells, maps of the cells of the keys and of the values, structs of the
-  -- fields' cells
+  -- the values that are left of a column: lists of the child's cells, maps of the cells of the keys and values, or
+  -- structs of the fields' cells
   pub ValuesLeft : Shape → ValueSource → List ColumnReader → List Cell → Type 0
   ValuesLeft (scalar k o) source below vs = ScalarLeft k source vs
   ValuesLeft (list_of s o) source below vs =
@@ -123,45 +123,45 @@ abbrev mutual
   FieldsLeft (field name s fs) readers structs =
       Fielded (ColumnLeft (ValuesLeft s) (take (width s) readers)) (FieldsLeft fs (drop (width s) readers)) structs
 
--- the cells that a column and the columns below it still spell
+-- the cells that are left of a column, with the columns below it
 abbrev pub CellsLeft : Shape → List ColumnReader → List Cell → Type 0
 CellsLeft s readers cells = ColumnLeft (ValuesLeft s) readers cells
 
--- the lists that a reader has still to give: as many elements each as LENGTH says, off the reader of elements
+-- the lists that are left: LENGTH has their sizes, and the reader of elements their elements
 abbrev pub ListsLeft : Shape → ValueSource → List ColumnReader → List (List Cell) → Type 0
 ListsLeft s source below lists = Sized (NumbersLeft source.numbers) (Within source.room (CellsLeft s below)) lists
 
--- of a column's readers, its own first: the column's number, the marks, the values, the lists
+-- the number of the column to which the first of the readers belongs
 abbrev pub column_of : List ColumnReader → ℕ
 column_of [] = 0
 column_of (own ∷ below) = own.source.column
 
--- what a column's own reader has of PRESENT
+-- what is left of PRESENT for the first of the readers
 abbrev pub marks_of : List ColumnReader → Option Bits
 marks_of [] = None
 marks_of (own ∷ below) = own.present
 
--- the values that a column's readers, its own and those below it, have still to give
+-- the values that are left for a column's readers, which are its reader and those below it
 abbrev pub OwnLeft : Shape → List ColumnReader → List Cell → Type 0
 OwnLeft s [] vs = ⊥
 OwnLeft s (own ∷ below) vs = ValuesLeft s own.source below vs
 
--- the lists that a list column's readers have still to give
+-- the lists that are left for the readers of a column of lists
 abbrev pub ListsOf : Shape → List ColumnReader → List (List Cell) → Type 0
 ListsOf s [] lists = ⊥
 ListsOf s (own ∷ below) lists = ListsLeft s own.source below lists
 
--- of a column of maps: the pairs that the columns of its keys and of its values spell, and its maps
+-- the pairs that are left for the readers of a map's keys and values
 abbrev pub PairsLeft : Shape → Shape → List ColumnReader → List (Cell × Cell) → Type 0
 PairsLeft k v below ps =
     Paired (CellsLeft k (take (width k) below)) (CellsLeft v (drop (width k) below)) ps
 
--- the maps that a reader has still to give: as many pairs each as LENGTH says, off the readers of keys and values
+-- the maps that are left: LENGTH has their sizes, and the readers of keys and values their pairs
 abbrev pub MapsLeft : Shape → Shape → ValueSource → List ColumnReader → List (List (Cell × Cell)) → Type 0
 MapsLeft k v source below maps =
     Sized (NumbersLeft source.numbers) (Within source.room (PairsLeft k v below)) maps
 
--- the maps that a map column's readers have still to give
+-- the maps that are left for the readers of a column of maps
 abbrev pub MapsOf : Shape → Shape → List ColumnReader → List (List (Cell × Cell)) → Type 0
 MapsOf k v [] maps = ⊥
 MapsOf k v (own ∷ below) maps = MapsLeft k v own.source below maps

@@ -1,5 +1,5 @@
--- How many values a column's cells are, and how many cells the column below it has, as far as streams say it
--- (ORC specification, "Column Encodings"). `first` are the marks, or the lengths, that come first in a stream,
+-- How many values the cells of a column are, and how many cells the column below it has, as far as the streams store
+-- it (ORC specification, "Column Encodings"). `first` holds for the marks or the lengths that come first in a stream,
 -- whatever follows.
 use Rattle.std.specs.Prelude.{◌≡◌, ℕ, suc, ℤ, pos, Bool, true, false, List, [], ◌∷◌, ◌++◌, length, replicate, map, sum}
 use Rattle.orc_bits.specs.Packed.{digits}
@@ -9,26 +9,26 @@ use Rattle.orc_column_reader.specs.Runs.{RunsBegin}
 use Rattle.orc_column_reader.specs.RunFaults.{Needed}
 use Rattle.orc_values.specs.Trues.{trues}
 
--- booleans that come first in runs of their bytes
+-- the booleans come first in the runs of the bytes
 pub record BoolsBegin (bytes : List ℕ) (bools : List Bool) : Type 0 where
   pub packed : List ℕ
   pub runs : RunsBegin IsByteRun bytes packed
   pub more : List ℕ
   pub digits_are : digits 8 packed ≡ map digit bools ++ more
 
--- marks that come first in PRESENT; where it is empty, nothing is null
+-- the marks come first in PRESENT; if it is empty, nothing is null
 abbrev pub MarksBegin : List ℕ → List Bool → Type 0
 MarksBegin [] marks = marks ≡ replicate (length marks) true
 MarksBegin (b ∷ bs) marks = BoolsBegin (b ∷ bs) marks
 
--- of so many cells, n are values: all marks are known, or those that come first
+-- n of the cells are values: the marks of all cells are known, or those of the first ones
 pub record ValuesNeeded (all : Bool) (cells : ℕ) (first : List Bool → Type 0) (n : ℕ) : Type 0 where
   pub marks : List Bool
   pub come_first : first marks
   pub known : Needed all (length marks) cells
   pub counted : n ≡ trues marks
 
--- so many lists have n elements, or so many maps n pairs: all lengths are known, or those that come first
+-- the lists or maps have n elements or pairs in all: the lengths of all are known, or those of the first ones
 pub record ElementsNeeded (all : Bool) (lists : ℕ) (first : List ℤ → Type 0) (n : ℕ) : Type 0 where
   pub lengths : List ℕ
   pub come_first : first (map pos lengths)

@@ -9,19 +9,19 @@ use Rattle.orc_rle.specs.declared.sign.Rle.TheVariants.{One, Two}
 use Rattle.orc_column_reader.specs.declared.numbers.Numbers.{Numbers}
 use Rattle.orc_column_reader.specs.Runs.{RunsFirst}
 
--- a run of that version
+-- a run of this version
 abbrev pub is_run : Rle → Sign → List ℕ → List ℤ → Type 0
 is_run One sign bytes values = IsRunOne sign bytes values
 is_run Two sign bytes values = IsRunTwo sign bytes values
 
--- the numbers that a stream's bytes spell
+-- the numbers that the bytes of a stream store
 abbrev pub AreNumbers : Rle → Sign → List ℕ → List ℤ → Type 0
 AreNumbers version sign bytes values = IsStream (is_run version sign) bytes values
 
--- those that a reader has still to give
+-- the numbers that a reader still has to give
 abbrev pub NumbersLeft : Numbers → List ℤ → Type 0
 NumbersLeft r all = RunsLeft (is_run r.version r.sign) (drop r.used r.run.values) (drop r.at r.bytes.now) all
 
--- those that it gives first, whatever becomes of the others
+-- the numbers that a reader gives first, whatever follows
 abbrev pub NumbersFirst : Numbers → List ℤ → Type 0
 NumbersFirst r all = RunsFirst (is_run r.version r.sign) (drop r.used r.run.values) (drop r.at r.bytes.now) all

@@ -1,4 +1,4 @@
--- A reader at the start of its streams.
+-- Readers at the start of their streams.
 use Rattle.std.specs.Prelude.{◌≡◌, ℕ, suc, ◌+◌, Bool, true, false, Option, Some, None, List, [], ◌∷◌, ◌++◌, length, map, take, drop}
 use Rattle.std.specs.declared.vec.Vec.{Vec}
 use Rattle.std.specs.declared.alloc.Global.{Global}
@@ -41,18 +41,18 @@ pub record BitsStart (bytes : List ℕ) (r : Bits) : Type 0 where
   pub runs : BytesStart bytes r.bytes
   pub none_left : r.left ≡ 0
 
--- a reader of PRESENT at its start; there is none where the stream is empty
+-- a reader of PRESENT at its start; there is none if the stream is empty
 abbrev pub MarksStart : List ℕ → Option Bits → Type 0
 MarksStart [] None = Unit {0}
 MarksStart [] (Some bits) = ⊥
 MarksStart (b ∷ bs) None = ⊥
 MarksStart (b ∷ bs) (Some bits) = BitsStart (b ∷ bs) bits
 
--- a reader of byte strings at its start: LENGTH and DATA
+-- a reader of byte strings at the start of LENGTH and DATA
 abbrev pub StringsStart : Streams → ValueSource → Type 0
 StringsStart x r = NumbersStart (version x) Unsigned (in_length x) r.numbers × (r.octets.rest.now ≡ in_data x)
 
--- a reader of strings at its start: with its dictionary read, or with bytes of its own
+-- a reader of texts at its start: with its dictionary read, or with plain bytes
 abbrev pub TextsStart : Bool → Streams → Option (Vec Entry Global) → ValueSource → Type 0
 TextsStart true x (Some entries) r =
     IsDictionary x (map entry_bytes entries.items) × NumbersStart (version x) Unsigned (in_data x) r.numbers
@@ -60,7 +60,7 @@ TextsStart true x None r = ⊥
 TextsStart false x (Some entries) r = ⊥
 TextsStart false x None r = StringsStart x r
 
--- a reader of single values at its start, by its kind
+-- a reader at its start of values whose kind contains no other type
 abbrev pub ScalarStart : Scalar → Streams → ValueSource → Type 0
 ScalarStart kind.Boolean x r = BitsStart (in_data x) r.bits
 ScalarStart kind.Byte x r = BytesStart (in_data x) r.bytes
@@ -71,19 +71,19 @@ ScalarStart kind.Date x r = NumbersStart (version x) Signed (in_data x) r.number
 ScalarStart kind.Binary x r = StringsStart x r
 ScalarStart kind.String x r = TextsStart (has_dictionary x) x r.entries r
 
--- of a column's own reader, what is beside the marks
+-- the source of a column at its start
 abbrev pub SourceStart : Shape → Streams → ValueSource → Type 0
 SourceStart (scalar k o) x r = ScalarStart k x r
 SourceStart (list_of s o) x r = NumbersStart (version x) Unsigned (in_length x) r.numbers × (r.room ≡ most_cells)
 SourceStart (map_of k v o) x r = NumbersStart (version x) Unsigned (in_length x) r.numbers × (r.room ≡ most_cells)
 SourceStart (struct_of fs o) x r = Unit {0}
 
--- a column's own reader
+-- the reader of a column at its start, without those below it
 abbrev pub OwnStart : Shape → Streams → ColumnReader → Type 0
 OwnStart s x r = MarksStart (in_present x) r.present × SourceStart s x r.source
 
 abbrev mutual
-  -- the readers of a column and of those below it
+  -- the readers of a column and of those below it at their start
   pub TreeStart : Shape → (ℕ → Streams) → List ColumnReader → Type 0
   TreeStart s columns [] = ⊥
   TreeStart (scalar k o) columns (r ∷ rs) = OwnStart (scalar k o) (columns 0) r
@@ -101,22 +101,22 @@ abbrev mutual
   FieldsStart (field name s fs) columns rs =
       TreeStart s columns (take (width s) rs) × FieldsStart fs (λ c. columns (width s + c)) (drop (width s) rs)
 
--- no dictionary is spelled where the encoding has one
+-- the encoding has a dictionary, and no dictionary is stored
 abbrev pub LacksEntries : Bool → Streams → Type 0
 LacksEntries true x = (entries : List (List ℕ)) → IsDictionary x entries → ⊥
 LacksEntries false x = ⊥
 
--- the same, by the column's kind: strings alone have a dictionary
+-- the column is one of texts whose encoding has a dictionary, and none is stored
 abbrev pub ScalarLacks : Scalar → Streams → Type 0
 ScalarLacks kind.String x = LacksEntries (has_dictionary x) x
 ScalarLacks _ x = ⊥
 
--- the column has a dictionary, by its encoding, and its streams spell none
+-- the column has a dictionary, by its type and encoding, and its streams store none
 abbrev pub HasNoDictionary : Shape → Streams → Type 0
 HasNoDictionary (scalar k o) x = ScalarLacks k x
 HasNoDictionary _ x = ⊥
 
--- what a column's cells are read from
+-- what the cells of a column are read from
 pub record AreStreams (x : Streams) (r : ColumnStreams) : Type 0 where
   pub version_is : r.version ≡ version x
   pub dictionary_is : r.has_dictionary ≡ has_dictionary x
@@ -126,17 +126,17 @@ pub record AreStreams (x : Streams) (r : ColumnStreams) : Type 0 where
   pub lengths_are : r.lengths.now ≡ in_length x
   pub dictionary_data_is : r.dictionary_data.now ≡ in_dictionary x
 
--- a source from the start of DATA, whatever is read from it
+-- a source at the start of DATA, whatever is read from it
 pub record DataStart (x : Streams) (r : ValueSource) : Type 0 where
   pub numbers : NumbersStart (version x) Signed (in_data x) r.numbers
   pub bytes : BytesStart (in_data x) r.bytes
   pub bits : BitsStart (in_data x) r.bits
 
--- a column's own reader, which has the column's number
+-- the reader of a column at its start, which has the column's number
 abbrev pub IsOf : Shape → (ℕ → Streams) → ℕ → ColumnReader → Type 0
 IsOf s columns n own = OwnStart s (columns n) own × (own.source.column ≡ n)
 
--- readers from a column on: its own, and those below it
+-- the readers from a column on: its reader, and those below it
 abbrev pub AreReadersFrom : (ℕ → List ColumnReader → Type 0) → Shape → (ℕ → Streams) → ℕ → List ColumnReader → Type 0
 AreReadersFrom found s columns n [] = ⊥
 AreReadersFrom found s columns n (own ∷ below) = IsOf s columns n own × found n below
@@ -156,12 +156,12 @@ abbrev mutual
       AreReadersFrom (AreReadersBelow s columns) s columns n (take (width s) readers)
       × AreFieldReaders fs columns (n + width s) (drop (width s) readers)
 
--- the readers of a column and of those below it, by the columns' numbers
+-- the readers of a column and of those below it, which have the columns' numbers
 abbrev pub AreOf : Shape → (ℕ → Streams) → ℕ → List ColumnReader → Type 0
 AreOf s columns n readers = AreReadersFrom (AreReadersBelow s columns) s columns n readers
 
--- the readers of a column and of those below it stand behind the old ones;
--- the column's number is the number of the old ones
+-- The readers of a column and of those below it were put after the old ones. The column's number is the number of old
+-- ones.
 pub record PutsReaders (footer : StripeFooter) (bytes : List ℕ) (s : Shape) (old new : List ColumnReader) : Type 0 where
   pub more : List ColumnReader
   pub parts : new ≡ old ++ more
@@ -169,7 +169,7 @@ pub record PutsReaders (footer : StripeFooter) (bytes : List ℕ) (s : Shape) (o
   pub start : TreeStart s (columns_from footer bytes (length old)) more
   pub origins : AreOf s (columns_of footer bytes) (length old) more
 
--- the readers of a struct's fields were put behind those that were there
+-- the readers of a struct's fields were put after the old ones
 pub record PutsFields (footer : StripeFooter) (bytes : List ℕ) (fs : Fields)
     (old new : List ColumnReader) : Type 0 where
   pub more : List ColumnReader

@@ -26,7 +26,7 @@ use Rattle.orc_column_reader.specs.Columns.{IsBool, IsByte, IsInt, IsDate, IsTex
 use Rattle.orc_directory.specs.Directory.{slice, is_directory, first_wrong}
 use Rattle.orc_values.specs.Limits.{cell_limit, most_cells}
 
--- what a column's cells are read from: its encoding, and the bytes of its stream of each kind
+-- what the cells of a column are read from: its encoding, and the bytes of its streams by kind
 pub record Streams : Type 0 where
   pub encoding : Encoding
   pub stream : ℕ → List ℕ
@@ -35,19 +35,19 @@ pub record Streams : Type 0 where
 abbrev pub in_present : Streams → List ℕ
 in_present x = x.stream PRESENT
 
--- the bytes of its DATA
+-- the bytes of a column's DATA
 abbrev pub in_data : Streams → List ℕ
 in_data x = x.stream DATA
 
--- the bytes of its LENGTH
+-- the bytes of a column's LENGTH
 abbrev pub in_length : Streams → List ℕ
 in_length x = x.stream LENGTH
 
--- the bytes of its DICTIONARY_DATA
+-- the bytes of a column's DICTIONARY_DATA
 abbrev pub in_dictionary : Streams → List ℕ
 in_dictionary x = x.stream DICTIONARY_DATA
 
--- DIRECT_V2 and DICTIONARY_V2 have integers of version 2
+-- DIRECT and DICTIONARY have integers of version 1, all other encodings of version 2
 abbrev pub version_at : ℕ → Rle
 version_at encoding = if nat_lt encoding DIRECT_V2 then One else Two
 
@@ -55,16 +55,16 @@ version_at encoding = if nat_lt encoding DIRECT_V2 then One else Two
 abbrev pub version : Streams → Rle
 version s = version_at s.encoding.kind
 
--- whether a column's strings are named in a dictionary
+-- whether a column's texts are in a dictionary
 abbrev pub has_dictionary : Streams → Bool
 has_dictionary s = is_dictionary s.encoding.kind
 
--- PRESENT; where it is empty, nothing is null
+-- the marks in PRESENT; if it is empty, nothing is null
 abbrev pub Marks : List ℕ → List Bool → Type 0
 Marks [] marks = marks ≡ replicate (length marks) true
 Marks (b ∷ bs) marks = IsBitStream (b ∷ bs) marks
 
--- these bytes and no others
+-- the list is these bytes
 abbrev pub Is : List ℕ → List ℕ → Type 0
 Is bytes all = all ≡ bytes
 
@@ -76,20 +76,20 @@ AreLengths s = AreNumbers (version s) Unsigned (in_length s)
 abbrev pub AreIntegers : Streams → List ℤ → Type 0
 AreIntegers s = AreNumbers (version s) Signed (in_data s)
 
--- DATA has the strings one after the other, and LENGTH the length of each
+-- DATA has the byte strings one after the other, and LENGTH the length of each
 abbrev pub AreStrings : Streams → List (List ℕ) → Type 0
 AreStrings s = Sized (AreLengths s) (Is (in_data s))
 
--- DATA has the index of an entry for each string
+-- DATA has the index of an entry for each text
 abbrev pub AreIndexes : Streams → List ℤ → Type 0
 AreIndexes s = AreNumbers (version s) Unsigned (in_data s)
 
--- LENGTH has a length for each entry, and DICTIONARY_DATA their bytes
+-- LENGTH has a length for each entry, and DICTIONARY_DATA has the bytes of the entries
 pub record IsDictionary (s : Streams) (entries : List (List ℕ)) : Type 0 where
   pub counted : length entries ≡ s.encoding.dictionary_size
   pub spelled : Sized (AreLengths s) (Is (in_dictionary s)) entries
 
--- strings named in a dictionary by DATA, or spelled by DATA with their lengths in LENGTH
+-- texts that DATA names in a dictionary, or that are in DATA with their lengths in LENGTH
 abbrev pub SpellsTexts : Streams → Bool → List Cell → Type 0
 SpellsTexts s true vs =
     (entries : List (List ℕ))
@@ -97,11 +97,11 @@ SpellsTexts s true vs =
     × Standing (IsEntry entries) (AreIndexes s) vs
 SpellsTexts s false vs = Standing IsText (AreStrings s) vs
 
--- integers in DATA that the kind holds
+-- integers in DATA that are in the range of the kind
 abbrev pub SpellsInts : Scalar → Streams → List Cell → Type 0
 SpellsInts k s vs = Standing (IsInt k) (AreIntegers s) vs
 
--- DATA and the streams beside it spell the values of a column of this kind
+-- DATA and the streams that go with it store the values of a column of this kind
 abbrev pub SpellsScalar : Scalar → Streams → List Cell → Type 0
 SpellsScalar kind.Boolean s vs = Standing IsBool (IsBitStream (in_data s)) vs
 SpellsScalar kind.Byte s vs = Standing IsByte (AreBytes (in_data s)) vs
@@ -112,21 +112,21 @@ SpellsScalar kind.Date s vs = Standing IsDate (AreIntegers s) vs
 SpellsScalar kind.Binary s vs = Standing IsBinary (AreStrings s) vs
 SpellsScalar kind.String s vs = SpellsTexts s (has_dictionary s) vs
 
--- the streams beside PRESENT spell the values of a column: of lists their lengths, of maps how many pairs they have,
--- of structs nothing
+-- The streams besides PRESENT store the values of a column. For lists and maps these are their sizes; for structs
+-- they store nothing.
 abbrev pub SpellsValues : Shape → Streams → List Cell → Type 0
 SpellsValues (scalar k o) s vs = SpellsScalar k s vs
 SpellsValues (list_of e o) s vs = AreLengths s (map (λ v. size (parts v)) vs)
 SpellsValues (map_of k v o) s vs = AreLengths s (map (λ m. size (pairs_in m)) vs)
 SpellsValues (struct_of fs o) s vs = Unit {0}
 
--- the streams of a column spell its cells
+-- the streams of a column store its cells
 pub record IsColumn (shape : Shape) (s : Streams) (column : List Cell) : Type 0 where
   pub few : length column < cell_limit
   pub marks : Marks (in_present s) (map is_value column)
   pub spelled : SpellsValues shape s (values column)
 
--- The columns' streams spell so many rows of the schema.
+-- The columns' streams store `count` rows of the schema.
 pub record SpellRows (schema : Shape) (columns : ℕ → Streams) (count : ℕ) (rows : List Cell) : Type 0 where
   pub counted : length rows ≡ count
   pub fit : RowsFit schema rows
@@ -134,13 +134,13 @@ pub record SpellRows (schema : Shape) (columns : ℕ → Streams) (count : ℕ) 
 
 -- ---- the same by going down the schema, as a reader does
 
--- a column's cells: nulls where PRESENT says, and values as its other streams spell them
+-- a column's cells: nulls by PRESENT, and values by the other streams
 abbrev pub SpellsColumn : ((ℕ → Streams) → List Cell → Type 0) → (ℕ → Streams) → List Cell → Type 0
 SpellsColumn found columns cells = Nullable (Marks (in_present (columns 0))) (found columns) cells
 
 abbrev mutual
-  -- a column's values, with all below it: lists of the child's cells, maps of the cells of the keys and of
-  -- the values, structs of the fields' cells
+  -- a column's values, with the columns below: lists of the child's cells, maps of the cells of the keys and values,
+  -- or structs of the fields' cells
   pub SpellsTree : Shape → (ℕ → Streams) → List Cell → Type 0
   SpellsTree (scalar k o) columns vs = SpellsScalar k (columns 0) vs
   SpellsTree (list_of s o) columns vs =
@@ -160,11 +160,11 @@ abbrev mutual
   SpellsFields (field name s fs) columns structs =
       Fielded (SpellsColumn (SpellsTree s) columns) (SpellsFields fs (λ c. columns (width s + c))) structs
 
--- a column's cells, with all below it
+-- a column's cells, with the columns below
 abbrev pub SpellsCells : Shape → (ℕ → Streams) → List Cell → Type 0
 SpellsCells s columns cells = SpellsColumn (SpellsTree s) columns cells
 
--- DIRECT; what a column counts as for which the footer has no encoding
+-- DIRECT, which is used for a column without an encoding in the footer
 abbrev pub plain : Encoding
 plain = record { kind = DIRECT; dictionary_size = 0 }
 
@@ -179,11 +179,11 @@ abbrev pub columns_of : StripeFooter → List ℕ → ℕ → Streams
 columns_of footer bytes c =
     record { encoding = encoding_at footer.columns c; stream = λ kind. slice c kind footer.streams bytes }
 
--- the columns from one on
+-- the columns from `first` on
 abbrev pub columns_from : StripeFooter → List ℕ → ℕ → ℕ → Streams
 columns_from footer bytes first c = columns_of footer bytes (first + c)
 
--- The bytes are a stripe with this footer: its directory and its encodings are those that a reader accepts.
+-- The bytes are a stripe with this footer, whose directory and encodings are valid.
 pub record HasFooter (schema : Shape) (info : StripeInfo) (bytes : List ℕ) (footer : StripeFooter) : Type 0 where
   pub whole : length bytes ≡ info.index_length + info.data_length + info.footer_length
   pub read : Spells stripe_footer 0 0 (drop (info.index_length + info.data_length) bytes) footer

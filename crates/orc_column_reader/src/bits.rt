@@ -1,4 +1,4 @@
-//! Booleans, as the digits of bytes in runs.
+//! Streams of booleans, which are the digits of bytes in runs.
 
 ghost use Rattle.std.specs.Prelude.{◌≡◌, ◌≢◌, ◌/◌, ◌%◌, ◌^◌, ◌∷◌, [], ℕ, suc, IfOk, IfErr, OnOk, OnErr, MatchBool};
 ghost use Rattle.orc_column_reader.specs.Fronts.{Leaves, Precedes, Lacks};
@@ -12,8 +12,8 @@ ghost use Rattle.orc_rle.specs.declared.fault.RunFault.{RunFault as Fault};
 use crate::bytes::{RunLengthBytes, bytes_end, bytes_left, bytes_of};
 use orc_rle::RunFault;
 
-/// What is left of a stream of booleans: so many digits of the byte that was read last, and the bytes
-/// after it. It takes no memory.
+/// What is left of a stream of booleans: the lowest `left` digits of the byte that was read last, and the bytes after
+/// it. It takes no memory.
 #[derive(Drop)]
 pub struct Bits<'a> {
     pub bytes: RunLengthBytes<'a>,
@@ -21,14 +21,14 @@ pub struct Bits<'a> {
     pub left: u32,
 }
 
-/// A stream of booleans, from its start.
+/// Returns a reader at the start of a stream of booleans.
 pub(crate) fn bits_of(bytes: &[u8]) -> Bits<'_>
     ensures { BitsStart bytes.now result }
 {
     Bits::behind(bytes_of(bytes), 0, 0)
 }
 
-/// Whether the digit of the byte with so many lower ones is 1. A byte has eight digits.
+/// Returns whether the digit of a byte that has `lower` digits below it is 1. A byte has eight digits.
 fn digit_at(byte: u8, lower: u32) -> bool
     ensures { digit result ≡ byte / 2 ^ lower % 2 }
 {
@@ -36,24 +36,30 @@ fn digit_at(byte: u8, lower: u32) -> bool
 }
 
 impl<'a> Bits<'a> {
-    /// A stream of booleans of which the byte `held` was read last. Its lowest digits come next, so many as `left`
-    /// says, and then those of `bytes`.
+    /// Returns the reader of a stream of booleans whose byte `held` was read last. Its lowest `left` digits come
+    /// next, and then those of `bytes`.
     #[inline(always)]
     pub fn behind(bytes: RunLengthBytes<'a>, held: u8, left: u32) -> Bits<'a>
-        // The reader has each part as it is given.
+        // The returned reader has the given parts.
         ensures { result ≡ record { bytes = bytes.entry; held = held; left = left } }
     {
         Bits { bytes, held, left }
     }
 
-    /// The next boolean.
+    /// Returns the next boolean.
+    ///
+    /// # Errors
+    ///
+    /// - `TooFew`, if no boolean is left.
+    /// - The error of the next run, if it is invalid, with its offset.
     pub fn next(&mut self) -> Result<bool, RunFault>
-        // What is answered is the first of the booleans that are left, and the others are left
-        // then, also where the stream breaks behind them.
+        // If the call succeeds, then the booleans that were left before it are the returned one, followed by those
+        // left after it, also if only the first ones can be read because a later run is invalid.
         ensures found { IfOk result (λ b. Leaves (BitsLeft self.old) (BitsLeft self.new) (b ∷ [])) }
         ensures first { IfOk result (λ b. Precedes (BitsFirst self.old) (BitsFirst self.new) (b ∷ [])) }
-        // A refusal stands: the stream spells no boolean more, and the fault is one that the reader
-        // meets, now or after the booleans before, however many more are wanted.
+        // If the call fails, then no boolean can be read any more, and the error is one that the reader met before
+        // the call, whatever number of booleans above 0 it had to give. If it succeeds, then each error that the
+        // reader meets after it with n booleans to give is one that it met before with n + 1.
         ensures none { OnErr result (Lacks (BitsLeft self.old) 1) }
         ensures before { OnOk result ((n : ℕ) (f : Fault) → BitsMeet self.new n f → BitsMeet self.old (suc n) f) }
         ensures fault { IfErr result (λ fault. (n : ℕ) → BitsMeet self.old (suc n) fault) }
@@ -70,7 +76,7 @@ impl<'a> Bits<'a> {
     }
 }
 
-/// Whether no boolean is left: no whole byte's digits, that is, since fewer are spare.
+/// Returns whether no boolean is left. Fewer than eight spare digits may be left.
 pub(crate) fn bits_end(bits: &Bits<'_>) -> bool
     ensures { MatchBool result (BitsLeft bits.now []) (BitsLeft bits.now [] → ⊥) }
 {
@@ -83,7 +89,8 @@ pub(crate) fn bits_end(bits: &Bits<'_>) -> bool
     true
 }
 
-/// The fault of booleans that are left over. A byte whose digits are all held is of the last run.
+/// Returns the error of booleans that are left over. If all digits of the held byte are left, they are of the last
+/// run.
 pub(crate) fn bits_left(bits: &Bits<'_>) -> RunFault
     requires more { BitsLeft bits.now [] → ⊥ }
     ensures met { BitsMeet bits.now 0 result }

@@ -1,4 +1,4 @@
-//! Texts and bytes one after the other, their sizes in LENGTH.
+//! Texts and byte strings, one after the other, with their lengths in LENGTH.
 
 ghost use Rattle.std.specs.Prelude.{◌≡◌, ◌≢◌, ◌++◌, ◌∷◌, [], ℕ, suc, Bool, true, false, length, pos, IfOk, IfErr, OnOk, OnErr, MatchBool};
 ghost use Rattle.orc_values.specs.Own.{own_cell, IsValueOf};
@@ -19,7 +19,12 @@ use crate::whole_numbers::next_number;
 use orc_directory::{StreamKind, StripeFault, run_fault};
 use orc_values::Own;
 
-/// The next byte string, its size from LENGTH.
+/// Returns the next byte string, whose length is in LENGTH.
+///
+/// # Errors
+///
+/// - `Run` with LENGTH, if no length is left or the next run is invalid.
+/// - `LengthSum`, if fewer bytes are left than the length says.
 #[inline(always)]
 pub fn next_string<'a>(
     column: usize,
@@ -27,19 +32,22 @@ pub fn next_string<'a>(
     numbers: &mut Numbers<'a>,
     octets: &mut Octets<'a>,
 ) -> Result<&'a [u8], StripeFault>
-    // What is answered is the first of the byte strings that are left, and the others are left
-    // then.
+    // If the call succeeds, then the byte strings that were left before it are the returned one, followed by those
+    // left after it.
     ensures found { IfOk result (λ bytes. Leaves (Sized (NumbersLeft numbers.old) (OctetsLeft octets.old))
         (Sized (NumbersLeft numbers.new) (OctetsLeft octets.new)) (bytes.now ∷ [])) }
-    // Where it is refused, the streams spell no byte string more.
+    // If the call fails, then the streams have no further byte string.
     ensures none { OnErr result (Lacks (Sized (NumbersLeft numbers.old) (OctetsLeft octets.old)) 1) }
-    // Its length is LENGTH's next number, and its bytes are the next ones, also where
-    // LENGTH breaks behind it.
+    // If the call succeeds, then the length of the returned bytes is LENGTH's next number, also if only the first
+    // numbers can be read because a later run is invalid; and the returned bytes are the first of those that were
+    // left, with the others left after the call.
     ensures first { IfOk result
         (λ bytes. Precedes (NumbersFirst numbers.old) (NumbersFirst numbers.new) (pos (length bytes.now) ∷ [])) }
     ensures bytes { IfOk result (λ bytes. octets.old.rest.now ≡ bytes.now ++ octets.new.rest.now) }
-    // The fault of a refusal, if not want of memory, is one that the reader meets, now or after the
-    // byte strings before: of LENGTH's runs, or LengthSum.
+    // If the call fails other than with `OutOfMemory`, then the error is one of LENGTH's runs or `LengthSum`, and the
+    // reader met it before the call, whatever number of byte strings above 0 it had to give. If the call succeeds,
+    // then each error that the reader meets after it with n byte strings to give is one that it met before with n +
+    // 1.
     ensures before { OnOk result ((all : Bool) (n : ℕ) (f : Fault)
         → StringsMeet kind numbers.new octets.new all n column f
         → StringsMeet kind numbers.old octets.old all (suc n) column f) }
@@ -56,9 +64,9 @@ pub fn next_string<'a>(
     }
 }
 
-/// Whether no byte string is left.
+/// Returns whether no byte string is left.
 pub fn strings_end(numbers: &Numbers<'_>, octets: &Octets<'_>) -> bool
-    // True is answered exactly where neither lengths nor bytes are left.
+    // The call returns true if and only if neither lengths nor bytes are left.
     ensures { MatchBool result (Sized (NumbersLeft numbers.now) (OctetsLeft octets.now) [])
         (Sized (NumbersLeft numbers.now) (OctetsLeft octets.now) [] → ⊥) }
 {
@@ -71,7 +79,7 @@ pub fn strings_end(numbers: &Numbers<'_>, octets: &Octets<'_>) -> bool
     true
 }
 
-/// The fault of byte strings that are left over: of their lengths, or of the bytes.
+/// Returns the error of byte strings that are left over: of their lengths, or of the bytes.
 pub fn strings_left(
     column: usize,
     kind: StreamKind,
@@ -79,8 +87,8 @@ pub fn strings_left(
     octets: &Octets<'_>,
 ) -> StripeFault
     requires more { Sized (NumbersLeft numbers.now) (OctetsLeft octets.now) [] → ⊥ }
-    // Where something is left over, the fault is one that a reader meets that is to give no byte
-    // string more.
+    // If lengths or bytes are left over, then the returned error is one that a reader meets which must have given all
+    // byte strings.
     ensures { StringsMeet kind numbers.now octets.now true 0 column result }
 {
     if numbers_end(numbers) {
@@ -89,7 +97,7 @@ pub fn strings_left(
     run_fault(column, StreamKind::Length, numbers_left(numbers))
 }
 
-/// The next text, its bytes one after the other in DATA.
+/// Returns the next text, whose bytes are the next ones in DATA.
 #[inline(always)]
 pub(crate) fn next_text<'a>(
     column: usize,
@@ -114,14 +122,14 @@ pub(crate) fn next_text<'a>(
     }
 }
 
-/// Bytes as a value.
+/// Returns bytes as a value.
 fn value_of<'a>(bytes: &'a [u8]) -> Own<'a>
     ensures { IsBinary bytes.now (own_cell result) }
 {
     Own::Bytes(bytes)
 }
 
-/// The next bytes.
+/// Returns the next byte string of DATA as a value.
 pub(crate) fn next_binary<'a>(
     column: usize,
     numbers: &mut Numbers<'a>,

@@ -1,4 +1,4 @@
-//! Bytes in runs.
+//! Streams of bytes in runs.
 
 ghost use Rattle.std.specs.Prelude.{◌≡◌, ◌≢◌, ◌<◌, ◌∷◌, [], ℕ, suc, length, IfOk, IfErr, OnOk, OnErr, MatchBool};
 ghost use Rattle.orc_column_reader.specs.Fronts.{Leaves, Precedes, Lacks};
@@ -10,19 +10,19 @@ ghost use Rattle.orc_rle.specs.declared.fault.RunFault.{RunFault as Fault};
 
 use orc_rle::{ByteRuns, RunFault, RunU8};
 
-/// What is left of a stream of bytes in runs: the bytes of the run that was read last which weren't
-/// taken yet, and the runs after it. It takes no memory.
+/// What is left of a stream of bytes in runs: the bytes of the run that was read last which weren't taken yet, and
+/// the runs after it. It takes no memory.
 #[derive(Drop)]
 pub struct RunLengthBytes<'a> {
     pub bytes: &'a [u8],
     pub at: usize,
-    // where the run that was read last begins
+    // the start of the run that was read last
     pub start: usize,
     pub run: RunU8,
     pub used: usize,
 }
 
-/// A stream of bytes in runs, from its start.
+/// Returns a reader at the start of a stream of bytes in runs.
 pub(crate) fn bytes_of(bytes: &[u8]) -> RunLengthBytes<'_>
     ensures { BytesStart bytes.now result }
 {
@@ -30,8 +30,8 @@ pub(crate) fn bytes_of(bytes: &[u8]) -> RunLengthBytes<'_>
 }
 
 impl<'a> RunLengthBytes<'a> {
-    /// A stream of bytes in runs of which the run that begins at `start` was read last, and the bytes from `at` on come
-    /// next. What is left of that run is in `run`, but for the first `used` values.
+    /// Returns the reader of a stream of bytes in runs whose run at `start` was read last. The bytes from `at` on
+    /// come after that run. `run` has what is left of it, but its first `used` values were taken.
     #[inline(always)]
     pub fn behind(
         bytes: &'a [u8],
@@ -40,7 +40,7 @@ impl<'a> RunLengthBytes<'a> {
         run: RunU8,
         used: usize,
     ) -> RunLengthBytes<'a>
-        // The reader has each part as it is given.
+        // The returned reader has the given parts.
         ensures { result ≡ record { bytes = bytes.entry; at = at; start = start; run = run; used = used } }
     {
         RunLengthBytes {
@@ -52,7 +52,7 @@ impl<'a> RunLengthBytes<'a> {
         }
     }
 
-    /// Reads runs until a byte is there.
+    /// Reads runs until there is a byte.
     fn fill(&mut self) -> Result<(), RunFault>
         ensures found { OnOk result (Leaves (BytesLeft self.old) (BytesLeft self.new) []) }
         ensures first { OnOk result (Precedes (BytesFirst self.old) (BytesFirst self.new) []) }
@@ -78,14 +78,20 @@ impl<'a> RunLengthBytes<'a> {
         Ok(())
     }
 
-    /// The next byte.
+    /// Returns the next byte.
+    ///
+    /// # Errors
+    ///
+    /// - `TooFew`, if no byte is left.
+    /// - The error of the next run, if it is invalid, with its offset.
     pub fn next(&mut self) -> Result<u8, RunFault>
-        // What is answered is the first of the bytes that are left, and the others are left then,
-        // also where the stream breaks behind them.
+        // If the call succeeds, then the bytes that were left before it are the returned one, followed by those left
+        // after it, also if only the first ones can be read because a later run is invalid.
         ensures found { IfOk result (λ byte. Leaves (BytesLeft self.old) (BytesLeft self.new) (byte ∷ [])) }
         ensures first { IfOk result (λ byte. Precedes (BytesFirst self.old) (BytesFirst self.new) (byte ∷ [])) }
-        // A refusal stands: the stream spells no byte more, and the fault is one that the reader
-        // meets, now or after the bytes before, however many more are wanted.
+        // If the call fails, then no byte can be read any more, and the error is one that the reader met before the
+        // call, whatever number of bytes above 0 it had to give. If it succeeds, then each error that the reader
+        // meets after it with n bytes to give is one that it met before with n + 1.
         ensures none { OnErr result (Lacks (BytesLeft self.old) 1) }
         ensures before { OnOk result ((n : ℕ) (f : Fault) → BytesMeet self.new n f → BytesMeet self.old (suc n) f) }
         ensures fault { IfErr result (λ fault. (n : ℕ) → BytesMeet self.old (suc n) fault) }
@@ -97,7 +103,7 @@ impl<'a> RunLengthBytes<'a> {
     }
 }
 
-/// Whether no byte of the runs is left.
+/// Returns whether no byte of the runs is left.
 pub(crate) fn bytes_end(bytes: &RunLengthBytes<'_>) -> bool
     ensures { MatchBool result (BytesLeft bytes.now []) (BytesLeft bytes.now [] → ⊥) }
 {
@@ -110,7 +116,7 @@ pub(crate) fn bytes_end(bytes: &RunLengthBytes<'_>) -> bool
     true
 }
 
-/// The fault of bytes in runs that are left over.
+/// Returns the error of bytes in runs that are left over.
 pub(crate) fn bytes_left(bytes: &RunLengthBytes<'_>) -> RunFault
     requires more { BytesLeft bytes.now [] → ⊥ }
     ensures met { BytesMeet bytes.now 0 result }

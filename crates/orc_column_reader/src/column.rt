@@ -1,4 +1,5 @@
-//! What is left of a column's streams: its next mark, value or size of a list or map, and whether values are left over.
+//! What is left of a column's streams: the next mark, value or size of a list or map, and whether values are left
+//! over.
 
 ghost use Rattle.std.specs.Prelude.{◌≡◌, ◌≢◌, ◌≤◌, ◌-◌, ◌∷◌, [], ℕ, suc, Bool, true, false, List, pos, IfOk, IfErr, OnOk, OnErr, MatchBool};
 ghost use Rattle.orc_values.specs.Shapes.{Shape};
@@ -31,25 +32,25 @@ use crate::whole_numbers::{next_byte, next_date, next_int, next_long, next_numbe
 use orc_directory::{StreamKind, StripeFault, run_fault};
 use orc_values::{Own, Scalar};
 
-/// What is left of the streams of a column beside PRESENT. Each kind of column uses some of them.
+/// What is left of the streams of a column besides PRESENT. Each kind of column uses some of them.
 #[derive(Drop)]
 pub struct ValueSource<'a> {
     pub column: usize,
-    /// DATA of whole numbers and of indexes, LENGTH of texts, bytes, lists and maps.
+    /// DATA of whole numbers and of indexes, or LENGTH of texts, byte strings, lists and maps.
     pub numbers: Numbers<'a>,
-    /// DATA of whole numbers of 8 bits.
+    /// DATA of whole numbers with 8 bits.
     pub bytes: RunLengthBytes<'a>,
     /// DATA of booleans.
     pub bits: Bits<'a>,
-    /// DATA of texts and bytes.
+    /// DATA of texts and byte strings.
     pub octets: Octets<'a>,
-    /// The dictionary of a column that has one.
+    /// The dictionary, if the column has one.
     pub entries: Option<Vec<Entry<'a>>>,
-    /// How many more elements a list's child may have, or pairs a map's two children.
+    /// How many more elements the lists of the column may have, or how many more pairs its maps.
     pub room: u64,
 }
 
-/// What is left of a column's streams.
+/// What is left of the streams of a column.
 #[derive(Drop)]
 pub struct ColumnReader<'a> {
     pub present: Option<Bits<'a>>,
@@ -57,29 +58,35 @@ pub struct ColumnReader<'a> {
 }
 
 impl<'a> ColumnReader<'a> {
-    /// The reader of a column: PRESENT, where the column has it, and its other streams.
+    /// Returns the reader of a column from its PRESENT, if it has one, and its other streams.
     #[inline(always)]
     pub fn of(present: Option<Bits<'a>>, source: ValueSource<'a>) -> ColumnReader<'a>
-        // The reader has each part as it is given.
+        // The returned reader has the given parts.
         ensures { result ≡ record { present = present.entry; source = source.entry } }
     {
         ColumnReader { present, source }
     }
 }
 
-/// Whether the column's next cell is not null.
+/// Returns whether the column's next cell is not null.
+///
+/// # Errors
+///
+/// `Run` with PRESENT, if no mark is left or the next run is invalid.
 pub fn next_present(reader: &mut ColumnReader<'_>) -> Result<bool, StripeFault>
-    // What is answered says whether the column's next cell is not null, and the marks behind are
-    // left.
+    // If the call succeeds, then it returns whether the column's next cell is not null, and the marks that were left
+    // before it are the returned one, followed by those left after it.
     ensures found { IfOk result
         (λ mark. Leaves (MarksLeft reader.old.present) (MarksLeft reader.new.present) (mark ∷ [])) }
-    // With an answer the column's other streams stay as they are.
+    // If the call succeeds, then the column's other streams stay as they are.
     ensures source { OnOk result (reader.new.source ≡ reader.old.source) }
-    // The mark is the first one also where PRESENT breaks behind it.
+    // If the call succeeds, then the returned mark is also the first one if only the first marks can be read because
+    // a later run of PRESENT is invalid.
     ensures first { IfOk result
         (λ mark. Precedes (MarksFirst reader.old.present) (MarksFirst reader.new.present) (mark ∷ [])) }
-    // A refusal stands: PRESENT spells no mark more, and the fault, if not want of memory, is one
-    // of its runs that the reader meets, now or after the marks before.
+    // If the call fails, then no mark can be read any more, and an error other than `OutOfMemory` is one of PRESENT's
+    // runs that the reader met before the call, whatever number of marks above 0 it had to give. If it succeeds, then
+    // each error that the reader meets after it with n marks to give is one that it met before with n + 1.
     ensures none { OnErr result (Lacks (MarksLeft reader.old.present) 1) }
     ensures before { OnOk result ((n : ℕ) (f : RunsFault)
         → MarksMeet reader.new.present n f
@@ -90,7 +97,7 @@ pub fn next_present(reader: &mut ColumnReader<'_>) -> Result<bool, StripeFault>
     next_mark(reader.source.column, &mut reader.present)
 }
 
-/// The next value of a column of booleans.
+/// Returns the next value of a column of booleans.
 fn next_bool<'a>(column: usize, bits: &mut Bits<'a>) -> Result<Own<'a>, StripeFault>
     ensures found { IfOk result (λ v. Leaves (Standing IsBool (BitsLeft bits.old))
         (Standing IsBool (BitsLeft bits.new)) (own_cell v ∷ [])) }
@@ -109,21 +116,30 @@ fn next_bool<'a>(column: usize, bits: &mut Bits<'a>) -> Result<Own<'a>, StripeFa
 }
 
 impl<'a> ValueSource<'a> {
-    /// The next value of a column of a kind that contains no other. It takes no memory.
+    /// Returns the next value of a column whose kind contains no other type. It takes no memory.
+    ///
+    /// # Errors
+    ///
+    /// - `Run`, if no value is left or the next run is invalid.
+    /// - `OutOfRange`, if a number is not in the range of the kind.
+    /// - `LengthSum`, if fewer bytes are left than the length of a text or byte string says.
+    /// - `NotUtf8`, if a text is not UTF-8.
+    /// - `BadIndex`, if an index is not below the size of the dictionary.
     #[inline(always)]
     pub fn next_scalar(&mut self, kind: Scalar) -> Result<Own<'a>, StripeFault>
-        // What is answered is the first of the column's values that are left, and the others are
-        // left then.
+        // If the call succeeds, then the values of a column of `kind` that were left before it are the returned one,
+        // followed by those left after it.
         ensures found { IfOk result
             (λ v. Leaves (ScalarLeft kind self.old) (ScalarLeft kind self.new) (own_cell v ∷ [])) }
-        // It is a value of the column's kind.
+        // If the call succeeds, then the returned value is one of `kind`.
         ensures kind { IfOk result (λ v. IsValueOf kind (own_cell v)) }
-        // Where it is refused, the streams spell no value more.
+        // If the call fails, then the streams have no further value of `kind`.
         ensures none { OnErr result (Lacks (ScalarLeft kind self.old) 1) }
         // The column's number stays as it is.
         ensures column { self.new.column ≡ self.old.column }
-        // The fault of a refusal, if not want of memory, is one that the reader meets, now or after
-        // the values before.
+        // If the call fails other than with `OutOfMemory`, then the error is one that the reader met before the call,
+        // whatever number of values above 0 it had to give. If the call succeeds, then each error that the reader
+        // meets after it with n values to give is one that it met before with n + 1.
         ensures before { OnOk result ((all : Bool) (n : ℕ) (f : Fault)
             → ScalarMeets kind self.new all n f
             → ScalarMeets kind self.old all (suc n) f) }
@@ -146,24 +162,32 @@ impl<'a> ValueSource<'a> {
     }
 }
 
-/// The size of the next list or map, for which there is room.
+/// Returns the size of the next list or map, if there is room for it (ORC specification, "Column Encodings").
+///
+/// # Errors
+///
+/// - `Run` with LENGTH, if no size is left or the next run is invalid.
+/// - `TooMany`, if there is no room for that many elements or pairs.
 #[inline(always)]
 pub fn next_size(source: &mut ValueSource<'_>) -> Result<u64, StripeFault>
-    // What is answered is LENGTH's next number, and the others are left then, also where LENGTH
-    // breaks behind them.
+    // If the call succeeds, then the numbers that LENGTH had left before it are the returned one, followed by those
+    // left after it, also if only the first ones can be read because a later run is invalid.
     ensures found { IfOk result
         (λ size. Leaves (NumbersLeft source.old.numbers) (NumbersLeft source.new.numbers) (pos size ∷ [])) }
     ensures first { IfOk result
         (λ size. Precedes (NumbersFirst source.old.numbers) (NumbersFirst source.new.numbers) (pos size ∷ [])) }
-    // There was room for so many elements or pairs, and there is room for so many fewer then.
+    // If the call succeeds, then there was room for at least as many elements or pairs as the returned size, and the
+    // room has become smaller by that number.
     ensures room { IfOk result (λ size. (size ≤ source.old.room) × (source.new.room ≡ source.old.room - size)) }
-    // Where it is refused, there is no list more, whatever the columns below have, and no map.
+    // If the call fails, then there is no further list and no further map, whatever the columns below have.
     ensures none { OnErr result ((s : Shape) (below : List Reader) → Lacks (ListsLeft s source.old below) 1) }
     ensures no_map { OnErr result ((k v : Shape) (below : List Reader) → Lacks (MapsLeft k v source.old below) 1) }
     // The column's number stays as it is.
     ensures column { source.new.column ≡ source.old.column }
-    // The fault of a refusal, if not want of memory, is one that the reader meets, now or after the
-    // sizes before: of LENGTH's runs, or TooMany for sizes without room.
+    // If the call fails other than with `OutOfMemory`, then the error is one of LENGTH's runs or `TooMany` for sizes
+    // without room, and the reader met it before the call, whatever number of sizes above 0 it had to give. If the
+    // call succeeds, then each error that the reader meets after it with n sizes to give is one that it met before
+    // with n + 1.
     ensures before { OnOk result ((all : Bool) (n : ℕ) (f : Fault)
         → ListsMeet source.new all n f
         → ListsMeet source.old all (suc n) f) }
@@ -181,9 +205,9 @@ pub fn next_size(source: &mut ValueSource<'_>) -> Result<u64, StripeFault>
     Ok(size)
 }
 
-/// Whether no value is left of a column of a kind that contains no other.
+/// Returns whether no value is left of a column whose kind contains no other type.
 pub fn scalar_end(source: &ValueSource<'_>, kind: Scalar) -> bool
-    // True is answered exactly where nothing is left of the column's values.
+    // The call returns true if and only if no value of a column of `kind` is left.
     ensures { MatchBool result (ScalarLeft kind source.now []) (ScalarLeft kind source.now [] → ⊥) }
 {
     match kind {
@@ -201,7 +225,7 @@ pub fn scalar_end(source: &ValueSource<'_>, kind: Scalar) -> bool
     }
 }
 
-/// The fault of numbers that are left over in DATA.
+/// Returns the error of numbers that are left over in DATA.
 fn data_left(source: &ValueSource<'_>) -> StripeFault
     requires more { NumbersLeft source.now.numbers [] → ⊥ }
     ensures { RunsFail stream.Data source.now.column (Always true 0 (NumbersMeet source.now.numbers)) result }
@@ -213,11 +237,11 @@ fn data_left(source: &ValueSource<'_>) -> StripeFault
     )
 }
 
-/// The fault of values that are left over, of a column of a kind that contains no other.
+/// Returns the error of values that are left over, of a column whose kind contains no other type.
 pub fn scalar_left(source: &ValueSource<'_>, kind: Scalar) -> StripeFault
     requires more { ScalarLeft kind source.now [] → ⊥ }
-    // Where something is left of the values, the fault is one that a reader meets that is to give
-    // no value more.
+    // If something is left of the values of a column of `kind`, then the returned error is one that a reader meets
+    // which must have given all values.
     ensures { ScalarMeets kind source.now true 0 result }
 {
     match kind {

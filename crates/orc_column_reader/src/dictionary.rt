@@ -1,4 +1,4 @@
-//! Texts by a dictionary: its entries, and their indexes in DATA.
+//! Texts of a dictionary: its entries, and their indexes in DATA.
 
 ghost use Rattle.std.specs.Prelude.{◌≡◌, ◌≢◌, ◌∷◌, ◌⊎◌, [], ℕ, suc, Bool, true, false, List, length, map, IfOk, IfErr, OnOk, OnErr};
 ghost use Rattle.orc_values.specs.Cells.{Cell};
@@ -27,7 +27,13 @@ use orc_rle::{Rle, Sign};
 use orc_values::Own;
 use std::alloc::Global;
 
-/// The entries of a dictionary.
+/// Reads the entries of a dictionary (ORC specification, "Column Encodings").
+///
+/// # Errors
+///
+/// - `Run` with LENGTH, if its runs are invalid or don't have `size` values.
+/// - `LengthSum`, if the lengths don't add up to the number of bytes.
+/// - `OutOfMemory`.
 pub fn entries_of<'a>(
     alloc: Global,
     column: usize,
@@ -36,12 +42,13 @@ pub fn entries_of<'a>(
     bytes: &'a [u8],
     size: u32,
 ) -> Result<Vec<Entry<'a>>, StripeFault>
-    // What is answered are the dictionary's entries, as many as its size, whose lengths and bytes
-    // the two streams spell, and nothing more.
+    // The number of returned entries is `size`. `lengths` are runs of exactly their lengths, and `bytes` are exactly
+    // their bytes, one entry after the other.
     ensures found { IfOk result (λ entries. (length entries.items ≡ size)
         × Sized (AreNumbers version Unsigned lengths.now) (Is bytes.now) (map entry_bytes entries.items)) }
-    // A refusal other than want of memory stands: the streams spell no so many entries, and the
-    // fault is one of LENGTH's runs, or LengthSum where the lengths make more or fewer bytes.
+    // If the call fails other than with `OutOfMemory`, then there are no `size` entries whose lengths are `lengths`
+    // and whose bytes are `bytes`; the error is one of LENGTH's runs, or `LengthSum`, if the lengths that come first
+    // add up to more than the bytes or all lengths to less.
     ensures none { IfErr result (λ cause. cause ≢ fault.OutOfMemory → (entries : List (List ℕ)) → length entries ≡ size
         → Sized (AreNumbers version Unsigned lengths.now) (Is bytes.now) entries → ⊥) }
     ensures fault { IfErr result (λ cause. cause ≢ fault.OutOfMemory
@@ -66,7 +73,7 @@ pub fn entries_of<'a>(
     Ok(entries)
 }
 
-/// The text at an index of a dictionary.
+/// Returns the text at an index of a dictionary.
 fn entry_value<'a>(
     column: usize,
     entries: &[Entry<'a>],
@@ -92,7 +99,7 @@ fn entry_value<'a>(
     }
 }
 
-/// The next text of a column with a dictionary.
+/// Returns the next text of a column with a dictionary.
 pub(crate) fn next_entry<'a>(
     column: usize,
     entries: &[Entry<'a>],

@@ -1,4 +1,4 @@
-//! An entry of a dictionary: its bytes, and the text that they are.
+//! An entry of a dictionary: its bytes, and their text if they are UTF-8.
 
 ghost use Rattle.std.specs.Prelude.{◌≡◌, option_map};
 ghost use Rattle.std.proofs.Props.{props};
@@ -8,13 +8,12 @@ ghost use Rattle.orc_column_reader.specs.Texts.{utf8_text};
 #[derive(Clone, Copy)]
 pub struct Entry<'a> {
     pub bytes: &'a [u8],
-    // the text that the bytes are, if they are UTF-8: one test of them, however many cells name the
-    // entry
+    // the text that the bytes are, if they are UTF-8; it is tested once, however many cells name the entry
     pub(crate) text: Option<&'a str>,
     ghost text_is: { option_map (λ t. t.now) text ≡ utf8_text bytes.now } by { Prim.hlevel props },
 }
 
-/// The text that bytes are, if they are UTF-8.
+/// Returns the text that bytes are, if they are UTF-8.
 fn text_of<'a>(bytes: &'a [u8]) -> Option<&'a str>
     ensures { option_map (λ t. t.now) result ≡ utf8_text bytes.now }
 {
@@ -22,7 +21,7 @@ fn text_of<'a>(bytes: &'a [u8]) -> Option<&'a str>
 }
 
 impl<'a> Entry<'a> {
-    /// The entry that has these bytes.
+    /// Returns the entry with these bytes.
     pub(crate) fn of(bytes: &'a [u8]) -> Entry<'a>
         ensures { result.bytes.now ≡ bytes.now }
     {

@@ -1,4 +1,4 @@
-//! Columns: streams to values. What a stripe's streams spell, read column by column.
+//! Columns: reads the values that a stripe's streams store, column by column.
 #![tactic(auto)]
 
 mod bits;

@@ -1,4 +1,4 @@
-//! PRESENT: which cells are not null, as booleans. A column without it has no nulls.
+//! PRESENT: booleans that mark which cells are not null. A column without it has no nulls.
 
 ghost use Rattle.std.specs.Prelude.{◌≢◌, ◌∷◌, [], ℕ, suc, IfOk, IfErr, OnOk, OnErr, MatchBool};
 ghost use Rattle.orc_column_reader.specs.Fronts.{Leaves, Precedes, Lacks};
@@ -15,7 +15,7 @@ use crate::bits::{Bits, bits_end, bits_left, bits_of};
 use orc_directory::{StreamKind, StripeFault, run_fault};
 use orc_rle::RunFault;
 
-/// Which cells are not null, from the first.
+/// Returns a reader at the start of PRESENT, or none if it is empty.
 pub(crate) fn marks_of(bytes: &[u8]) -> Option<Bits<'_>>
     ensures { MarksStart bytes.now result }
 {
@@ -25,14 +25,19 @@ pub(crate) fn marks_of(bytes: &[u8]) -> Option<Bits<'_>>
     Some(bits_of(bytes))
 }
 
-/// Whether the next cell is not null.
+/// Returns whether the next cell is not null.
+///
+/// # Errors
+///
+/// `Run` with PRESENT, if no mark is left or the next run is invalid.
 pub fn next_mark(column: usize, present: &mut Option<Bits<'_>>) -> Result<bool, StripeFault>
-    // What is answered is the first of the marks that are left, and the others are left then, also
-    // where PRESENT breaks behind them.
+    // If the call succeeds, then the marks that were left before it are the returned one, followed by those left
+    // after it, also if only the first ones can be read because a later run of PRESENT is invalid.
     ensures found { IfOk result (λ mark. Leaves (MarksLeft present.old) (MarksLeft present.new) (mark ∷ [])) }
     ensures first { IfOk result (λ mark. Precedes (MarksFirst present.old) (MarksFirst present.new) (mark ∷ [])) }
-    // A refusal stands: PRESENT spells no mark more, and the fault, if not want of memory, is one
-    // of its runs that the reader meets, now or after the marks before.
+    // If the call fails, then no mark can be read any more, and an error other than `OutOfMemory` is one of PRESENT's
+    // runs that the reader met before the call, whatever number of marks above 0 it had to give. If it succeeds, then
+    // each error that the reader meets after it with n marks to give is one that it met before with n + 1.
     ensures none { OnErr result (Lacks (MarksLeft present.old) 1) }
     ensures before { OnOk result ((n : ℕ) (f : RunsFault)
         → MarksMeet present.new n f
@@ -49,9 +54,9 @@ pub fn next_mark(column: usize, present: &mut Option<Bits<'_>>) -> Result<bool, 
     }
 }
 
-/// Whether no mark is left.
+/// Returns whether no mark is left.
 pub fn marks_end(present: &Option<Bits<'_>>) -> bool
-    // True is answered exactly where no mark is left, as it is without PRESENT.
+    // The call returns true if and only if no mark is left, which is so if there is no PRESENT.
     ensures { MatchBool result (MarksLeft present.now []) (MarksLeft present.now [] → ⊥) }
 {
     match present {
@@ -60,11 +65,11 @@ pub fn marks_end(present: &Option<Bits<'_>>) -> bool
     }
 }
 
-/// The fault of marks that are left over.
+/// Returns the error of marks that are left over.
 pub fn marks_left(present: &Option<Bits<'_>>) -> RunFault
     requires more { MarksLeft present.now [] → ⊥ }
-    // Where marks are left over, the fault is one that a reader meets that is to give none more,
-    // and not want of memory.
+    // If marks are left over, then the returned error is one that a reader meets which must have given all marks, and
+    // it is not `OutOfMemory`.
     ensures met { MarksMeet present.now 0 result }
     ensures no_memory { result ≢ run.OutOfMemory }
 {

@@ -1,4 +1,4 @@
-//! Integers in runs.
+//! Streams of integers in runs.
 
 ghost use Rattle.std.specs.Prelude.{◌≡◌, ◌≢◌, ◌<◌, ◌∷◌, [], ℕ, suc, length, IfOk, IfErr, OnOk, OnErr, MatchBool};
 ghost use Rattle.orc_column_reader.specs.Fronts.{Leaves, Precedes, Lacks};
@@ -11,31 +11,31 @@ ghost use Rattle.orc_rle.specs.declared.fault.RunFault.{RunFault as Fault};
 use crate::version::next_run;
 use orc_rle::{Rle, Run, RunFault, Sign};
 
-/// What is left of a stream of integers: the values of the run that was read last which weren't taken
-/// yet, and the bytes after it. It takes no memory.
+/// What is left of a stream of integers: the values of the run that was read last which weren't taken yet, and the
+/// bytes after it. It takes no memory.
 #[derive(Drop)]
 pub struct Numbers<'a> {
     pub version: Rle,
     pub sign: Sign,
     pub bytes: &'a [u8],
     pub at: usize,
-    // where the run that was read last begins
+    // the start of the run that was read last
     pub start: usize,
     pub run: Run,
     pub used: usize,
 }
 
-/// A stream of integers, from its start.
+/// Returns a reader at the start of a stream of integers.
 pub fn numbers_of(version: Rle, sign: Sign, bytes: &[u8]) -> Numbers<'_>
-    // The reader stands at the start of the stream's bytes, with their version and sign.
+    // The returned reader is at the start of `bytes`, with `version` and `sign`.
     ensures { NumbersStart version sign bytes.now result }
 {
     Numbers::behind(version, sign, bytes, 0, 0, Run::new(), 0)
 }
 
 impl<'a> Numbers<'a> {
-    /// A stream of integers of which the run that begins at `start` was read last, and the bytes from `at` on come
-    /// next. What is left of that run is in `run`, but for the first `used` values.
+    /// Returns the reader of a stream of integers whose run at `start` was read last. The bytes from `at` on come
+    /// after that run. `run` has what is left of it, but its first `used` values were taken.
     #[inline(always)]
     pub fn behind(
         version: Rle,
@@ -46,7 +46,7 @@ impl<'a> Numbers<'a> {
         run: Run,
         used: usize,
     ) -> Numbers<'a>
-        // The reader has each part as it is given.
+        // The returned reader has the given parts.
         ensures { result ≡ record {
           version = version;
           sign = sign;
@@ -68,7 +68,7 @@ impl<'a> Numbers<'a> {
         }
     }
 
-    /// Reads runs until a value is there.
+    /// Reads runs until there is a value.
     #[inline(never)]
     fn fill(&mut self) -> Result<(), RunFault>
         ensures found { OnOk result (Leaves (NumbersLeft self.old) (NumbersLeft self.new) []) }
@@ -96,7 +96,7 @@ impl<'a> Numbers<'a> {
         Ok(())
     }
 
-    /// Sees to it that a value is there. Nearly always one is, of the run that was read last, which needs no call.
+    /// Makes sure that there is a value. Nearly always the run that was read last has one, which needs no call.
     #[inline(always)]
     fn ready(&mut self) -> Result<(), RunFault>
         ensures found { OnOk result (Leaves (NumbersLeft self.old) (NumbersLeft self.new) []) }
@@ -113,19 +113,25 @@ impl<'a> Numbers<'a> {
         self.fill()
     }
 
-    /// The next number.
+    /// Returns the next number.
+    ///
+    /// # Errors
+    ///
+    /// - `TooFew`, if no number is left.
+    /// - The error of the next run, if it is invalid, with its offset.
     #[inline(always)]
     pub fn next(&mut self) -> Result<i64, RunFault>
-        // What is answered is the first of the numbers that are left, and the others are left then,
-        // also where the stream breaks behind them.
+        // If the call succeeds, then the numbers that were left before it are the returned one, followed by those
+        // left after it, also if only the first ones can be read because a later run is invalid.
         ensures found { IfOk result (λ n. Leaves (NumbersLeft self.old) (NumbersLeft self.new) (n ∷ [])) }
         ensures first { IfOk result (λ n. Precedes (NumbersFirst self.old) (NumbersFirst self.new) (n ∷ [])) }
-        // A refusal stands: the stream spells no number more, and the fault is one that the reader
-        // meets, now or after the numbers before, however many more are wanted.
+        // If the call fails, then no number can be read any more, and the error is one that the reader met before the
+        // call, whatever number of values above 0 it had to give. If it succeeds, then each error that the reader
+        // meets after it with n values to give is one that it met before with n + 1.
         ensures none { OnErr result (Lacks (NumbersLeft self.old) 1) }
         ensures before { OnOk result ((n : ℕ) (f : Fault) → NumbersMeet self.new n f → NumbersMeet self.old (suc n) f) }
         ensures fault { IfErr result (λ fault. (n : ℕ) → NumbersMeet self.old (suc n) fault) }
-        // No refusal is want of memory.
+        // An error is never `OutOfMemory`.
         ensures no_memory { IfErr result (λ fault. fault ≢ OutOfMemory) }
     {
         self.ready()?;
@@ -135,9 +141,9 @@ impl<'a> Numbers<'a> {
     }
 }
 
-/// Whether no number is left.
+/// Returns whether no number is left.
 pub fn numbers_end(numbers: &Numbers<'_>) -> bool
-    // True is answered exactly where no number is left.
+    // The call returns true if and only if no number is left.
     ensures { MatchBool result (NumbersLeft numbers.now []) (NumbersLeft numbers.now [] → ⊥) }
 {
     if numbers.used < numbers.run.values().len() {
@@ -149,12 +155,12 @@ pub fn numbers_end(numbers: &Numbers<'_>) -> bool
     true
 }
 
-/// The fault of numbers that are left over: of the run that was read last, or, where all of it is used,
-/// of the bytes after it, which may be no run.
+/// Returns the error of numbers that are left over: of the run that was read last, or, if all of that was taken, of
+/// the bytes after it, which may be no run.
 pub fn numbers_left(numbers: &Numbers<'_>) -> RunFault
     requires more { NumbersLeft numbers.now [] → ⊥ }
-    // Where numbers are left over, the fault is one that a reader meets that is to give none more,
-    // and not want of memory.
+    // If numbers are left over, then the returned error is one that a reader meets which must have given all numbers,
+    // and it is not `OutOfMemory`.
     ensures met { NumbersMeet numbers.now 0 result }
     ensures no_memory { result ≢ OutOfMemory }
 {

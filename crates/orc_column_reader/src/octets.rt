@@ -1,17 +1,17 @@
-//! Bytes as they are, in no runs.
+//! Streams of plain bytes, which are not in runs.
 
 ghost use Rattle.std.specs.Prelude.{◌≡◌, ◌<◌, [], length, IfSome, IfNone, MatchBool};
 ghost use Rattle.orc_column_reader.specs.Fronts.{Leaves, Lacks};
 ghost use Rattle.orc_column_reader.specs.Octets.{OctetsLeft};
 
-/// What is left of a stream of bytes that aren't run.
+/// What is left of a stream of plain bytes.
 #[derive(Drop)]
 pub struct Octets<'a> {
     pub rest: &'a [u8],
 }
 
 impl<'a> Octets<'a> {
-    /// Bytes of which all are left.
+    /// Returns a reader of plain bytes, of which all are left.
     #[inline(always)]
     pub(crate) fn of(rest: &'a [u8]) -> Octets<'a>
         ensures { result ≡ record { rest = rest.entry } }
@@ -19,13 +19,13 @@ impl<'a> Octets<'a> {
         Octets { rest }
     }
 
-    /// The next bytes, so many.
+    /// Returns the next `count` bytes, or none if fewer are left.
     pub fn take(&mut self, count: u64) -> Option<&'a [u8]>
-        // What is answered are the first of the bytes that are left, so many, and the others are
-        // left then.
+        // If the call returns bytes, then there are `count` of them, and the bytes that were left before the call are
+        // these, followed by those left after it.
         ensures found { IfSome result (λ bytes. (length bytes.now ≡ count)
             × Leaves (OctetsLeft self.old) (OctetsLeft self.new) bytes.now) }
-        // There is none only where fewer bytes are left.
+        // If the call returns none, then fewer than `count` bytes are left.
         ensures none { IfNone result (Lacks (OctetsLeft self.old) count) }
         ensures short { IfNone result (length self.old.rest.now < count) }
     {
@@ -38,9 +38,9 @@ impl<'a> Octets<'a> {
     }
 }
 
-/// Whether no byte is left.
+/// Returns whether no byte is left.
 pub fn octets_end(octets: &Octets<'_>) -> bool
-    // True is answered exactly where no byte is left.
+    // The call returns true if and only if no byte is left.
     ensures { MatchBool result (OctetsLeft octets.now []) (OctetsLeft octets.now [] → ⊥) }
 {
     octets.rest.len() == 0

@@ -23,7 +23,7 @@ use orc_values::{Scalar, Tree};
 use orc_wire::{DATA, DICTIONARY_DATA, Encoding, LENGTH, PRESENT, StripeFooter};
 use std::alloc::Global;
 
-/// What a column's cells are read from, by its encoding and the directory.
+/// What the cells of a column are read from, by its encoding and the directory.
 #[derive(Clone, Copy)]
 pub struct ColumnStreams<'a> {
     pub version: Rle,
@@ -35,7 +35,7 @@ pub struct ColumnStreams<'a> {
     pub dictionary_data: &'a [u8],
 }
 
-/// The encoding of a column.
+/// Returns the encoding of a column.
 fn encoding_of(column: usize, footer: &StripeFooter) -> Encoding
     requires there { column < length footer.now.columns }
     ensures { result ≡ encoding_at footer.now.columns column }
@@ -43,7 +43,7 @@ fn encoding_of(column: usize, footer: &StripeFooter) -> Encoding
     footer.columns.as_slice()[column]
 }
 
-/// The streams of a column.
+/// Returns the streams of a column.
 pub fn streams_of<'a>(
     column: usize,
     footer: &StripeFooter,
@@ -52,8 +52,9 @@ pub fn streams_of<'a>(
     requires there { column < length footer.now.columns }
     requires located { AreLocated (length footer.now.columns) footer.now.streams
         located.now.bytes.now located.now.slices.items }
-    // Where the directory's streams are located, what is answered are the column's, with the
-    // version of runs and the dictionary's size that its encoding says.
+    // If `column` has an encoding in `footer`, and `located` has the streams that `footer` names, then the returned
+    // streams are the column's, with the version of runs, the use of a dictionary and the dictionary's size that its
+    // encoding has.
     ensures { AreStreams (columns_of footer.now located.now.bytes.now column) result }
 {
     let encoding = encoding_of(column, footer);
@@ -68,7 +69,7 @@ pub fn streams_of<'a>(
     }
 }
 
-/// The source of a column whose values are in DATA.
+/// Returns the source of a column whose values are in DATA.
 fn data_source<'a>(column: usize, streams: &ColumnStreams<'a>) -> ValueSource<'a>
     ensures start { (x : Streams) → AreStreams x streams.now → DataStart x result }
     ensures column { result.column ≡ column }
@@ -83,7 +84,7 @@ fn data_source<'a>(column: usize, streams: &ColumnStreams<'a>) -> ValueSource<'a
     )
 }
 
-/// The source of a column whose values have sizes in LENGTH.
+/// Returns the source of a column whose values have sizes in LENGTH.
 fn sized_source<'a>(column: usize, streams: &ColumnStreams<'a>) -> ValueSource<'a>
     ensures byte_strings { (x : Streams) → AreStreams x streams.now → StringsStart x result }
     ensures no_entries { result.entries ≡ None }
@@ -94,7 +95,7 @@ fn sized_source<'a>(column: usize, streams: &ColumnStreams<'a>) -> ValueSource<'
     ValueSource::of_numbers(column, numbers, streams.data, None)
 }
 
-/// The source of a column with a dictionary.
+/// Returns the source of a column with a dictionary.
 fn dictionary_source<'a>(
     alloc: Global,
     column: usize,
@@ -123,7 +124,7 @@ fn dictionary_source<'a>(
     Ok(ValueSource::of_numbers(column, numbers, streams.data, Some(entries)))
 }
 
-/// The source of a column of texts.
+/// Returns the source of a column of texts.
 fn text_source<'a>(
     alloc: Global,
     column: usize,
@@ -146,7 +147,7 @@ fn text_source<'a>(
     }
 }
 
-/// The source of a column of a kind that contains no other.
+/// Returns the source of a column whose kind contains no other type.
 fn scalar_source<'a>(
     alloc: Global,
     kind: Scalar,
@@ -174,7 +175,7 @@ fn scalar_source<'a>(
     }
 }
 
-/// The source of a column by itself.
+/// Returns the source of a column, without those below it.
 fn source_of<'a>(
     alloc: Global,
     tree: &Tree,
@@ -199,7 +200,12 @@ fn source_of<'a>(
     }
 }
 
-/// The reader of a column by itself, from the start of its streams. The entries of a dictionary are read.
+/// Returns the reader of a column, without those below it, from the start of its streams. It reads the entries of the
+/// dictionary, if there is one.
+///
+/// # Errors
+///
+/// Those of `entries_of`.
 pub fn reader_of<'a>(
     alloc: Global,
     tree: &Tree,
@@ -210,16 +216,17 @@ pub fn reader_of<'a>(
     requires there { column < length footer.now.columns }
     requires located { AreLocated (length footer.now.columns) footer.now.streams
         located.now.bytes.now located.now.slices.items }
-    // Where the directory's streams are located, the reader stands at the start of the column's,
-    // and has the entries of its dictionary, if there is one.
+    // If `column` has an encoding in `footer`, and `located` has the streams that `footer` names, then the returned
+    // reader is at the start of the column's streams and has the entries of its dictionary, if its encoding has one.
     ensures found { IfOk result (OwnStart (shape tree.now) (columns_of footer.now located.now.bytes.now column)) }
-    // Where it is refused other than for want of memory, the column's encoding has a dictionary,
-    // and its streams spell none.
+    // If the call fails other than with `OutOfMemory`, then the column is one of texts whose encoding has a
+    // dictionary, and its streams store none of that size.
     ensures none { IfErr result (λ fault. fault ≢ OutOfMemory
         → HasNoDictionary (shape tree.now) (columns_of footer.now located.now.bytes.now column)) }
-    // The reader has the column's number.
+    // The returned reader has the column's number.
     ensures column { IfOk result (λ own. own.source.column ≡ column) }
-    // A refusal but for want of memory is a fault of the dictionary's lengths or of its bytes.
+    // An error other than `OutOfMemory` is one of the dictionary: of LENGTH's runs, or `LengthSum` with
+    // DICTIONARY_DATA.
     ensures fault { IfErr result (λ cause. cause ≢ OutOfMemory
         → DictionaryFails (shape tree.now) (columns_of footer.now located.now.bytes.now column) column cause) }
 {

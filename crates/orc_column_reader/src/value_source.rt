@@ -1,4 +1,4 @@
-//! What a column's values are read from, made of its streams.
+//! What a column's values are read from, made from its streams.
 
 ghost use Rattle.std.specs.Prelude.{◌≡◌, []};
 ghost use Rattle.orc_rle.specs.declared.sign.Rle.TheVariants.{One};
@@ -15,21 +15,21 @@ use crate::octets::Octets;
 use orc_rle::{Rle, Sign};
 use orc_values::MOST_CELLS;
 
-/// A stream of integers that has none, for columns without one.
+/// Returns an empty stream of integers, for columns without one.
 fn no_numbers() -> Numbers<'static>
     ensures { NumbersStart One Signed [] result }
 {
     numbers_of(Rle::One, Sign::Signed, &[])
 }
 
-/// A stream of bytes in runs that has none.
+/// Returns an empty stream of bytes in runs.
 fn no_bytes() -> RunLengthBytes<'static>
     ensures { BytesStart [] result }
 {
     bytes_of(&[])
 }
 
-/// A stream of booleans that has none.
+/// Returns an empty stream of booleans.
 fn no_bits() -> Bits<'static>
     ensures { BitsStart [] result }
 {
@@ -37,7 +37,7 @@ fn no_bits() -> Bits<'static>
 }
 
 impl<'a> ValueSource<'a> {
-    /// The source of a column of which nothing was read, with all of its streams.
+    /// Returns the source of a column from all of its streams, of which nothing was read.
     #[inline(always)]
     pub(crate) fn of_streams(
         column: usize,
@@ -68,19 +68,20 @@ impl<'a> ValueSource<'a> {
         }
     }
 
-    /// The source of a column without runs.
+    /// Returns the source of a column without runs.
     #[inline(always)]
     pub fn without_runs(
         column: usize,
         octets: &'a [u8],
         entries: Option<Vec<Entry<'a>>>,
     ) -> ValueSource<'a>
-        // The column's bytes, its entries and its number come with it, and all of its room is left.
+        // The returned source has the given bytes, entries and number of the column, and room for the most cells that
+        // a column may have.
         ensures octets { result.octets.rest.now ≡ octets.now }
         ensures entries { result.entries ≡ entries.entry }
         ensures column { result.column ≡ column }
         ensures room { result.room ≡ most_cells }
-        // No stream of runs has a value.
+        // The returned source has only empty streams of runs.
         ensures numbers { NumbersStart One Signed [] result.numbers }
         ensures bytes { BytesStart [] result.bytes }
         ensures bits { BitsStart [] result.bits }
@@ -88,7 +89,7 @@ impl<'a> ValueSource<'a> {
         ValueSource::of_streams(column, no_numbers(), no_bytes(), no_bits(), octets, entries)
     }
 
-    /// The source of a column whose own stream is of booleans.
+    /// Returns the source of a column whose stream of runs has booleans.
     #[inline(always)]
     pub fn of_bits(
         column: usize,
@@ -96,21 +97,22 @@ impl<'a> ValueSource<'a> {
         octets: &'a [u8],
         entries: Option<Vec<Entry<'a>>>,
     ) -> ValueSource<'a>
-        // The booleans come with it, as they are.
+        // The returned source has the given booleans.
         ensures bits { result.bits ≡ bits.entry }
-        // So do the column's bytes, its entries and its number, and all of its room is left.
+        // The returned source has the given plain bytes, entries and number of the column, and room for the most
+        // cells that a column may have.
         ensures octets { result.octets.rest.now ≡ octets.now }
         ensures entries { result.entries ≡ entries.entry }
         ensures column { result.column ≡ column }
         ensures room { result.room ≡ most_cells }
-        // No other stream of runs has a value.
+        // The returned source has empty streams of integers and of bytes in runs.
         ensures numbers { NumbersStart One Signed [] result.numbers }
         ensures bytes { BytesStart [] result.bytes }
     {
         ValueSource::of_streams(column, no_numbers(), no_bytes(), bits, octets, entries)
     }
 
-    /// The source of a column whose own stream is of bytes in runs.
+    /// Returns the source of a column whose stream of runs has bytes.
     #[inline(always)]
     pub fn of_bytes(
         column: usize,
@@ -118,21 +120,22 @@ impl<'a> ValueSource<'a> {
         octets: &'a [u8],
         entries: Option<Vec<Entry<'a>>>,
     ) -> ValueSource<'a>
-        // The bytes in runs come with it, as they are.
+        // The returned source has the given bytes in runs.
         ensures bytes { result.bytes ≡ bytes.entry }
-        // So do the column's other bytes, its entries and its number, and all of its room is left.
+        // The returned source has the given plain bytes, entries and number of the column, and room for the most
+        // cells that a column may have.
         ensures octets { result.octets.rest.now ≡ octets.now }
         ensures entries { result.entries ≡ entries.entry }
         ensures column { result.column ≡ column }
         ensures room { result.room ≡ most_cells }
-        // No other stream of runs has a value.
+        // The returned source has empty streams of integers and of booleans.
         ensures numbers { NumbersStart One Signed [] result.numbers }
         ensures bits { BitsStart [] result.bits }
     {
         ValueSource::of_streams(column, no_numbers(), bytes, no_bits(), octets, entries)
     }
 
-    /// The source of a column whose own stream is of integers.
+    /// Returns the source of a column whose stream of runs has integers.
     #[inline(always)]
     pub fn of_numbers(
         column: usize,
@@ -140,14 +143,15 @@ impl<'a> ValueSource<'a> {
         octets: &'a [u8],
         entries: Option<Vec<Entry<'a>>>,
     ) -> ValueSource<'a>
-        // The integers come with it, as they are.
+        // The returned source has the given integers.
         ensures numbers { result.numbers ≡ numbers.entry }
-        // So do the column's bytes, its entries and its number, and all of its room is left.
+        // The returned source has the given plain bytes, entries and number of the column, and room for the most
+        // cells that a column may have.
         ensures octets { result.octets.rest.now ≡ octets.now }
         ensures entries { result.entries ≡ entries.entry }
         ensures column { result.column ≡ column }
         ensures room { result.room ≡ most_cells }
-        // No other stream of runs has a value.
+        // The returned source has empty streams of bytes in runs and of booleans.
         ensures bytes { BytesStart [] result.bytes }
         ensures bits { BitsStart [] result.bits }
     {

@@ -1,4 +1,4 @@
-//! Whole numbers and dates: integers in DATA, or bytes in DATA where the numbers have 8 bits.
+//! Whole numbers and dates: integers in DATA, or bytes in DATA if the numbers have 8 bits.
 
 ghost use Rattle.std.specs.Prelude.{◌≡◌, ◌≢◌, ◌∷◌, [], ℕ, suc, Bool, false, IfOk, IfErr, OnOk, OnErr};
 ghost use Rattle.orc_values.specs.Own.{own_cell, IsValueOf};
@@ -23,19 +23,25 @@ use crate::numbers::Numbers;
 use orc_directory::{StreamKind, StripeFault, run_fault};
 use orc_values::{Own, Scalar, int_fits};
 
-/// The next number of the stream.
+/// Returns the next number of a stream.
+///
+/// # Errors
+///
+/// `Run` with the stream, if no number is left or the next run is invalid.
 #[inline(always)]
 pub fn next_number(
     column: usize,
     kind: StreamKind,
     numbers: &mut Numbers<'_>,
 ) -> Result<i64, StripeFault>
-    // What is answered is the first of the stream's numbers that are left, and the others are left
-    // then, also where the stream breaks behind them.
+    // If the call succeeds, then the numbers that were left before it are the returned one, followed by those left
+    // after it, also if only the first ones can be read because a later run is invalid.
     ensures found { IfOk result (λ n. Leaves (NumbersLeft numbers.old) (NumbersLeft numbers.new) (n ∷ [])) }
     ensures first { IfOk result (λ n. Precedes (NumbersFirst numbers.old) (NumbersFirst numbers.new) (n ∷ [])) }
-    // A refusal stands: the stream spells no number more, and the fault, if not want of memory, is
-    // one of its runs that the reader meets, now or after the numbers before.
+    // If the call fails, then no number can be read any more, and an error other than `OutOfMemory` is one of the
+    // stream's runs that the reader met before the call, whatever number of values above 0 it had to give. If it
+    // succeeds, then each error that the reader meets after it with n values to give is one that it met before with n
+    // + 1.
     ensures none { OnErr result (Lacks (NumbersLeft numbers.old) 1) }
     ensures before { OnOk result ((n : ℕ) (f : RunsFault)
         → NumbersMeet numbers.new n f
@@ -49,7 +55,7 @@ pub fn next_number(
     }
 }
 
-/// The next value of a column of numbers.
+/// Returns the next value of a column of whole numbers.
 #[inline(always)]
 pub(crate) fn next_int<'a>(
     column: usize,
@@ -72,7 +78,7 @@ pub(crate) fn next_int<'a>(
     Ok(Own::Int(number))
 }
 
-/// The next value of a column of numbers of 64 bits. Each is in range.
+/// Returns the next value of a column of whole numbers with 64 bits, which are all in range.
 #[inline(always)]
 pub(crate) fn next_long<'a>(
     column: usize,
@@ -92,7 +98,7 @@ pub(crate) fn next_long<'a>(
     Ok(Own::Int(number))
 }
 
-/// The next value of a column of dates.
+/// Returns the next value of a column of dates.
 pub(crate) fn next_date<'a>(
     column: usize,
     numbers: &mut Numbers<'a>,
@@ -114,7 +120,7 @@ pub(crate) fn next_date<'a>(
     }
 }
 
-/// The number that a byte stands for.
+/// Returns the number that a byte stands for.
 fn number_of(byte: u8) -> i64
     ensures { result ≡ signed_byte byte }
 {
@@ -125,7 +131,7 @@ fn number_of(byte: u8) -> i64
     }
 }
 
-/// The next value of a column of numbers of 8 bits.
+/// Returns the next value of a column of whole numbers with 8 bits.
 pub(crate) fn next_byte<'a>(
     column: usize,
     bytes: &mut RunLengthBytes<'a>,
