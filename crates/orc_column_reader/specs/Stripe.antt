@@ -132,7 +132,7 @@ pub record SpellRows (schema : Shape) (columns : ℕ → Streams) (count : ℕ) 
   pub fit : RowsFit schema rows
   pub column : (c : ℕ) → c < width schema → IsColumn (shape_at schema c) (columns c) (cells schema c rows)
 
--- ---- the same by going down the schema, as a reader does
+-- ---- rows by going down the schema, as a reader does
 
 -- a column's cells: nulls by PRESENT, and values by the other streams
 abbrev pub SpellsColumn : ((ℕ → Streams) → List Cell → Type 0) → (ℕ → Streams) → List Cell → Type 0

@@ -1,5 +1,5 @@
--- What is found of a column's cells: its statistic, that of each group, and what comes before it (ORC specification,
--- "Column Statistics" and "Row Group Index").
+-- What is found about a column's cells: its statistic, that of each group, and what comes before each group (ORC
+-- specification, "Column Statistics" and "Row Group Index").
 use Rattle.std.specs.Prelude.{◌≡◌, ℕ, Some, List, map, length, slice_get}
 use Rattle.orc_values.specs.Cells.{Cell, values}
 use Rattle.orc_values.specs.Shapes.{Shape, scalar, list_of, map_of, struct_of}
@@ -11,20 +11,20 @@ use Rattle.orc_column_walk.specs.OwnLeft.{children}
 use Rattle.orc_column_walk.specs.declared.found.ColumnFound.{ColumnFound}
 use Rattle.orc_column_walk.specs.declared.found.GroupFound.{GroupFound}
 
--- the bounds of the same groups in the columns right below; 0 where there is none
+-- the bounds of the same groups in the columns right below; 0 if there is none
 abbrev pub bounds_below : Shape → List Cell → List ℕ → List ℕ
 bounds_below (scalar k o) cells bounds = map (λ b. 0) bounds
 bounds_below (list_of s o) cells bounds = map (elements_before cells) bounds
 bounds_below (map_of k v o) cells bounds = map (pairs_before cells) bounds
 bounds_below (struct_of fs o) cells bounds = map (values_before cells) bounds
 
--- of a group: its cells' statistic, and the counts of the cells before it
+-- what is found about a group: the statistic of its cells, and the counts of the cells before it
 pub record IsGroupFound (s : Shape) (cells : List Cell) (bounds : List ℕ) (g : ℕ) (found : GroupFound) : Type 0 where
   pub stat_is : found.stat ≡ stat (kind_of s) (group_of cells bounds g)
   pub before : AreCounted found.before (before_group cells bounds g)
 
--- Of a column of these cells, of which so many come before each group: the statistic; what is found of each group; how
--- many cells each column right below has, and how many of them come before each group.
+-- What is found about a column with these cells and bounds of groups: the statistic, what is found about each group,
+-- how many cells each column right below has, and how many of these come before each group.
 pub record IsColumnFound (s : Shape) (cells : List Cell) (bounds : List ℕ) (found : ColumnFound) : Type 0 where
   pub stat_is : found.stat ≡ stat (kind_of s) cells
   pub counted : length found.groups.items ≡ length bounds

@@ -1,4 +1,4 @@
--- What is counted of a column's cells while they are read (ORC specification, "Row Group Index": what comes before a group).
+-- What is counted of a column's cells while they are read (ORC specification, "Row Group Index").
 use Rattle.std.specs.Prelude.{◌≡◌, ◌≤◌, ℕ, suc, ◌+◌, Bool, Some, List, length, map, min, slice_get, take}
 use Rattle.orc_values.specs.Cells.{Cell, values}
 use Rattle.orc_values.specs.Shapes.{Shape}
@@ -22,38 +22,38 @@ own_children (own.Map n) = n
 own_children own.Struct = 1
 own_children _ = 0
 
--- how many children the first cells have, counted up to the most
+-- how many children the first cells have, counted up to 2^64 - 1
 abbrev pub children_before : Shape → List Cell → ℕ → ℕ
 children_before s cells bound = min most (children s (values (take bound cells)))
 
--- these cells were passed
+-- the counts are those of these cells
 pub record IsPassed (s : Shape) (cells : List Cell) (passed : Passed) : Type 0 where
   pub counted : AreCounted passed.counts cells
   pub children_are : passed.children ≡ min most (children s (values cells))
 
--- the cells have these values, and so many of them come before each bound
+-- the cells have these values, and as many of them before each bound as its value bound
 pub record HavePassedValues (count : ℕ) (bounds value_bounds : List ℕ) (vs cells : List Cell) : Type 0 where
   pub counted : length cells ≡ count
   pub values_are : values cells ≡ vs
   pub before : map (values_before cells) bounds ≡ value_bounds
 
--- so many of the first cells are not null, by their marks
+-- how many of the first cells are not null, by their marks
 abbrev pub trues_before : List Bool → ℕ → ℕ
 trues_before marks bound = trues (take bound marks)
 
--- So many values come before each bound: no more than cells, and none of a group is one of another.
+-- How many values come before each bound. A group has no more values than cells.
 pub record AreValueBounds (count : ℕ) (bounds : List ℕ) (values : ℕ) (value_bounds : List ℕ) : Type 0 where
   pub as_many : length value_bounds ≡ length bounds
   pub ascending : AreBounds values value_bounds
   pub first : bound_at values value_bounds 0 ≡ 0
   pub fewer : (g : ℕ) → bound_at values value_bounds (suc g) + bound_at count bounds g ≤ bound_at values value_bounds g + bound_at count bounds (suc g)
 
--- what is found of the first groups of these cells
+-- what is found about the first n groups of these cells
 pub record AreGroupsFound (s : Shape) (cells : List Cell) (bounds : List ℕ) (n : ℕ) (groups : List GroupFound) : Type 0 where
   pub counted : length groups ≡ n
   pub each : (g : ℕ) (group : GroupFound) → slice_get groups g ≡ Some group → IsGroupFound s cells bounds g group
 
--- The same of all groups, with what is found of the whole. Children are counted up to the most.
+-- What is found about all groups, and about all cells. Children are counted up to 2^64 - 1.
 pub record AreGroupsCounted (s : Shape) (cells : List Cell) (bounds : List ℕ) (found : ColumnFound) : Type 0 where
   pub stat_is : found.stat ≡ stat (kind_of s) cells
   pub groups_are : AreGroupsFound s cells bounds (length bounds) found.groups.items

@@ -1,4 +1,4 @@
-//! The values of a column, counted group by group. None is held but the least and the greatest text.
+//! The values of a column, counted group by group. Only the least and the greatest text are kept.
 ghost use Rattle.std.specs.Prelude.{◌≡◌, ◌≢◌, ◌<◌, ◌≤◌, ◌+◌, ◌-◌, ◌^◌, ◌++◌, ℕ, Bool, false, List, length, map, take, IfOk, IfErr, OnOk, OnErr};
 ghost use Rattle.orc_values.specs.Cells.{Cell, values as values_of};
 ghost use Rattle.orc_values.specs.Views.{shape};
@@ -25,7 +25,7 @@ use orc_stats::{Bins, Bools, Children, Counted, Dates, Ints, Plain, Stat, StatKi
 use orc_values::{Own, Tree};
 use std::alloc::{AllocError, Global};
 
-/// The groups of a column's cells: a bound says how many of the cells come before a group, and another how many of the values.
+/// The groups of a column's cells: how many of the cells come before each group, and how many of the values.
 #[derive(Clone, Copy)]
 pub(crate) struct GroupBounds<'b> {
     pub(crate) count: usize,
@@ -34,7 +34,7 @@ pub(crate) struct GroupBounds<'b> {
     pub(crate) value_bounds: &'b [usize],
 }
 
-/// Reads the next values, so many, and counts each. `V` is a way to the next one.
+/// Reads the next `count` values and counts each. `V` is the way to the next value.
 fn read_values<'a, T: Tally<'a>, V: NextValue>(
     tree: &Tree,
     source: &mut ValueSource<'a>,
@@ -75,7 +75,7 @@ fn read_values<'a, T: Tally<'a>, V: NextValue>(
     Ok(passed)
 }
 
-/// Reads the next cells, so many, of which so many are values, and counts each.
+/// Reads the next `cells` cells, of which `count` are values, and counts each.
 fn read_part<'a, T: Tally<'a>, V: NextValue>(
     tree: &Tree,
     source: &mut ValueSource<'a>,
@@ -117,7 +117,7 @@ fn read_part<'a, T: Tally<'a>, V: NextValue>(
     }
 }
 
-/// The statistic of what was counted.
+/// Returns the statistic of what was counted.
 fn statistic_of<'a, T: Tally<'a>>(alloc: Global, tally: &T) -> Result<Stat, AllocError>
     ensures { IfOk result (λ found. found ≡ stat_of_kept T.measure (T.kept tally.now)) }
 {
@@ -127,7 +127,7 @@ fn statistic_of<'a, T: Tally<'a>>(alloc: Global, tally: &T) -> Result<Stat, Allo
     }
 }
 
-/// Reads the values of all groups, and counts them group by group; each value is counted once, and the groups' tallies
+/// Reads the values of all groups and counts them group by group. Each value is counted once, and the groups' tallies
 /// are joined.
 fn count_groups<'a, T: Tally<'a>, V: NextValue>(
     alloc: Global,
@@ -184,7 +184,7 @@ fn count_groups<'a, T: Tally<'a>, V: NextValue>(
     })
 }
 
-/// The same by the kind of the column.
+/// Reads the values of all groups and counts them group by group, with the tally for the column's kind.
 fn count_by_kind(
     alloc: Global,
     tree: &Tree,
@@ -223,7 +223,7 @@ fn count_by_kind(
     }
 }
 
-/// Reads all values of a column, which are to be so many, and counts them group by group.
+/// Reads all values of a column, of which there must be `groups.values`, and counts them group by group.
 pub(crate) fn find_values(
     alloc: Global,
     tree: &Tree,
@@ -244,7 +244,7 @@ pub(crate) fn find_values(
     ensures fault { IfErr result (λ cause. cause ≢ OutOfMemory
         → (all : Bool) × ValuesMeet (shape tree.now) source.old all groups.entry.values cause) }
 {
-    // for the proof, which knows that the room is a number of 64 bits where it is read
+    // for the proof: a number that is read is known to fit 64 bits
     let _room = source.room;
     match count_by_kind(alloc, tree, source, groups) {
         Ok(found) => {

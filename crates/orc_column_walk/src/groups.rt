@@ -1,4 +1,4 @@
-//! A column by itself, and the groups of its cells.
+//! A column without those below it, and the groups of its cells.
 ghost use Rattle.std.specs.Prelude.{◌≡◌, ◌≢◌, ◌<◌, Bool, List, length, IfOk, IfErr};
 ghost use Rattle.orc_values.specs.Cells.{Cell};
 ghost use Rattle.orc_values.specs.Views.{shape};
@@ -24,7 +24,7 @@ use orc_values::Tree;
 use orc_wire::StripeFooter;
 use std::alloc::Global;
 
-/// Reads all values of a column, by its marks, and counts them group by group. Structs have none to read.
+/// Reads all values of a column, by its marks, and counts them group by group. Structs have no values to read.
 fn find_column(
     alloc: Global,
     tree: &Tree,
@@ -59,12 +59,15 @@ fn find_column(
     find_values(alloc, tree, source, groups)
 }
 
-/// Reads a column of so many cells from its own streams, to their ends, and counts them: the
-/// column's statistic, that of each group, and what comes before it; and how many cells the columns
-/// right below have, and how many of these come before each group. A bound says how many of the
-/// cells come before a group (ORC specification, "Column Statistics" and "Row Group Index").
+/// Reads a column of `count` cells from its own streams, to their ends, and counts the cells: the column's statistic,
+/// that of each group, and what comes before each group; and how many cells the columns right below have, and how
+/// many of these come before each group. `bounds` are how many of the cells come before each group (ORC
+/// specification, "Column Statistics" and "Row Group Index").
 ///
-/// Refusals: those of a stripe's rows that are this column's own; `OutOfMemory`.
+/// # Errors
+///
+/// - The errors of a stripe's rows that are about this column.
+/// - `OutOfMemory`.
 pub fn read_groups(
     alloc: Global,
     tree: &Tree,
@@ -80,15 +83,18 @@ pub fn read_groups(
     requires few { count < cell_limit }
     requires bounds { AreBounds count bounds.now }
     requires first { bound_at count bounds.now 0 ≡ 0 }
-    // Where bounds ascend from 0 to the number of cells at most, the column's own cells are read,
-    // so many, to the end of its streams, and all that is told, group by group, is theirs.
+    // If `column` has an encoding in `footer`, `located` has the streams that `footer` names, `count` is below 2^31,
+    // and `bounds` begin with 0, never fall and are at most `count`, then the column's own streams store exactly
+    // `count` cells, without children, and what is returned about the column and about each group is right for these
+    // cells.
     ensures found { IfOk result (λ found. (own : List Cell)
         × IsOwnColumn (shape tree.now) (columns_of footer.now located.now.bytes.now column) count own
         × IsColumnFound (shape tree.now) own bounds.now found) }
-    // A column right below has fewer than 2^31 cells.
+    // The returned number of cells of a column right below is less than 2^31.
     ensures few { IfOk result (λ found. found.below < cell_limit) }
-    // A column that is refused, but for want of memory, has no so many cells, and its fault is one
-    // of its own streams.
+    // If `column` has an encoding in `footer`, `located` has the streams that `footer` names, `count` is below 2^31,
+    // `bounds` begin with 0, never fall and are at most `count`, and the call fails other than with `OutOfMemory`,
+    // then the column's own streams don't store `count` cells, and the error is one of these streams.
     ensures fault { IfErr result (λ cause. cause ≢ OutOfMemory
         → (all : Bool)
         × SpellsNoCells (shape tree.now) (columns_of footer.now located.now.bytes.now column) column all count cause) }

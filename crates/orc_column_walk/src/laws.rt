@@ -1,4 +1,4 @@
-//! Laws of columns that are read by themselves. The function does nothing: its contract is what it is for.
+//! Laws of columns that are read without those below them. The function does nothing: its contract is the statement.
 ghost use Rattle.std.specs.Prelude.{◌≡◌, ◌<◌, ℕ, Bool, List, map};
 ghost use Rattle.orc_values.specs.Cells.{Cell};
 ghost use Rattle.orc_values.specs.Columns.{cells};
@@ -10,27 +10,26 @@ ghost use Rattle.orc_values.specs.Childless.{childless};
 ghost use Rattle.orc_column_walk.specs.OwnColumns.{AreOwnColumns};
 ghost use Rattle.orc_column_walk.specs.OwnFaults.{RefusedDown};
 
-/// Where the streams of each column by themselves spell cells, as many as the column above has children, there are rows
-/// that the columns spell; and of rows that they spell each column's own streams say its cells, without children. Where
-/// a column below others that spell cells doesn't spell as many, there are no rows, and its fault is one of the stripe's.
+/// States that there are rows if each column's own streams store as many cells as the column above has children, and
+/// that the own streams of a column of rows store its cells without their children. If a column doesn't store as many
+/// cells as the columns above require, then there are no rows, and its error is one of the stripe's.
 pub fn own_column_laws()
-    // Where each column's own streams say as many cells as the column above has children, there are
-    // rows that the columns spell.
+    // If each column's own streams store cells, without children, and as many as the column above has children, then
+    // there are rows that the columns store.
     ensures rows { (s : Shape) (x : ℕ → Streams) (n : ℕ) (own : ℕ → List Cell)
         → AreOwnColumns s x own n
         → (rows : List Cell) × SpellRows s x n rows }
-    // Where columns spell rows, each column's own streams say its cells of these, without their
-    // children.
+    // If columns store rows, then each column's own streams store its cells in these rows, without their children.
     ensures own { (s : Shape) (x : ℕ → Streams) (n : ℕ) (rows : List Cell)
         → SpellRows s x n rows
         → AreOwnColumns s x (λ c. map childless (cells s c rows)) n }
-    // Where columns spell rows, and each column's own streams say cells, these are the rows' cells
-    // without their children, and no others.
+    // If columns store rows, and each column's own streams store cells, without children, and as many as the column
+    // above has children, then these are the cells that the column has in the rows, without their children.
     ensures cells { (s : Shape) (x : ℕ → Streams) (n : ℕ) (own : ℕ → List Cell) (rows : List Cell)
         → AreOwnColumns s x own n → SpellRows s x n rows
         → (c : ℕ) → c < width s → own c ≡ map childless (cells s c rows) }
-    // Where a column below others that say cells doesn't say as many as these have children, there
-    // are no rows, and its fault is one of the stripe's.
+    // If some column's own streams don't store as many cells as the column above it has children, and those above it
+    // do, then there are no rows, and the column's error is one of the stripe's.
     ensures refused { (s : Shape) (columns : ℕ → Streams) (all : Bool) (n : ℕ) (f : StripeFault)
         → RefusedDown s columns 0 all n f
         → RowsFault s columns n f }

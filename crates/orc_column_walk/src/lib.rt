@@ -1,5 +1,5 @@
-//! Whether a stripe's columns spell rows, column by column down the schema, each from its own streams. No row is made,
-//! and no value held.
+//! Tests whether a stripe's columns store rows, column by column down the schema, each from its own streams. No row
+//! is made, and no value is kept.
 #![tactic(auto)]
 
 mod bounds;

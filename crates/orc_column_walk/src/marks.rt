@@ -1,4 +1,4 @@
-//! PRESENT of a column by itself: how many of its cells are not null.
+//! PRESENT of a column without those below it: how many of its cells are not null.
 ghost use Rattle.std.specs.Prelude.{◌≡◌, ◌≢◌, ◌+◌, ◌∷◌, [], ℕ, Bool, false, List, length, map, IfOk, IfErr, OnOk, OnErr};
 ghost use Rattle.orc_column_reader.specs.Columns.{MarksLeft};
 ghost use Rattle.orc_column_reader.specs.Faults.{RunsFail};
@@ -17,14 +17,14 @@ use orc_column_reader::{Bits, marks_end, marks_left, next_mark};
 use orc_directory::{StreamKind, StripeFault, run_fault};
 use std::alloc::{AllocError, Global};
 
-/// How many values a cell with this mark is.
+/// Returns how many values a cell with this mark is.
 fn value_count(mark: bool) -> usize
     ensures { result ≡ trues (mark ∷ []) }
 {
     if mark { 1 } else { 0 }
 }
 
-/// Reads the next marks, so many, and answers how many are true.
+/// Reads the next `count` marks and returns how many are true.
 fn read_marks(
     column: usize,
     present: &mut Option<Bits<'_>>,
@@ -48,14 +48,15 @@ fn read_marks(
     Ok(values)
 }
 
-/// How many of a column's cells are values, and how many of these come before each group.
+/// How many of a column's cells are values, and how many of the values come before each group.
 #[derive(Drop)]
 pub(crate) struct ValueBounds {
     pub(crate) values: usize,
     pub(crate) before: Vec<usize>,
 }
 
-/// Reads the marks of all groups, one group after the other. A bound says how many of the cells come before a group.
+/// Reads the marks of all groups, one group after the other. `bounds` are how many of the cells come before each
+/// group.
 fn read_groups_marks(
     alloc: Global,
     column: usize,
@@ -90,7 +91,7 @@ fn read_groups_marks(
     Ok(ValueBounds { values, before })
 }
 
-/// The same bounds.
+/// Copies bounds.
 fn copy_bounds(alloc: Global, bounds: &[usize]) -> Result<Vec<usize>, AllocError>
     ensures { IfOk result (λ copy. copy.items ≡ bounds.now) }
 {
@@ -99,8 +100,8 @@ fn copy_bounds(alloc: Global, bounds: &[usize]) -> Result<Vec<usize>, AllocError
     Ok(copy)
 }
 
-/// Reads all marks of a column, which are to be so many, and answers how many cells are values, and how many of them come
-/// before each group. Where there is no PRESENT, all are, and none is looked at.
+/// Reads all marks of a column, of which there must be `count`, and returns how many cells are values, and how many
+/// of these come before each group. If there is no PRESENT, all cells are values, and none is looked at.
 pub(crate) fn count_values_by_group(
     alloc: Global,
     column: usize,
@@ -137,8 +138,8 @@ pub(crate) fn count_values_by_group(
     }
 }
 
-/// Reads all marks of a column, which are to be so many, and answers how many cells are values. Where there is no
-/// PRESENT, all are, and none is looked at.
+/// Reads all marks of a column, of which there must be `count`, and returns how many cells are values. If there is no
+/// PRESENT, all cells are values, and none is looked at.
 pub(crate) fn count_values(
     column: usize,
     present: &mut Option<Bits<'_>>,

@@ -1,10 +1,10 @@
-//! Ways to the next value of a column. A way for the types that files have most of asks for its own type first, so that a
-//! loop over values has that type's reader in itself, with no call for a value.
+//! Ways to read the next value of a column. A way for one of the most frequent types tests for that type first, so
+//! that a loop over values contains its reader and makes no call for each value.
 use orc_column_reader::{ValueSource, next_size};
 use orc_directory::StripeFault;
 use orc_values::{Own, Scalar, Tree};
 
-/// A way to the next value of a column, of whatever type.
+/// A way to read the next value of a column of any type.
 pub(crate) trait NextValue {
     ghost use Rattle.std.specs.Prelude.{◌≡◌, ◌≢◌, ◌∷◌, [], ℕ, suc, Bool, true, false, IfOk, IfErr, OnOk, OnErr};
     ghost use Rattle.orc_values.specs.Cells.{is_value};
@@ -18,7 +18,7 @@ pub(crate) trait NextValue {
     ghost use Rattle.orc_column_walk.specs.OwnLeft.{OwnValuesLeft, children};
     ghost use Rattle.orc_column_walk.specs.Passed.{own_children};
 
-    /// The column's next value, without children.
+    /// Reads the column's next value, without children.
     fn next<'a>(tree: &Tree, source: &mut ValueSource<'a>) -> Result<Own<'a>, StripeFault>
         ensures found { IfOk result (λ own. Leaves (OwnValuesLeft (shape tree.now) source.old)
             (OwnValuesLeft (shape tree.now) source.new) (own_cell own ∷ [])) }
@@ -33,7 +33,7 @@ pub(crate) trait NextValue {
             → (n : ℕ) → ValuesMeet (shape tree.now) source.old false (suc n) cause) };
 }
 
-/// Of any type.
+/// Reads values of any type.
 pub(crate) struct AnyValues;
 
 impl NextValue for AnyValues {
@@ -48,7 +48,7 @@ impl NextValue for AnyValues {
     }
 }
 
-/// Of INT and LONG first.
+/// Reads values of INT and LONG first.
 pub(crate) struct NumberValues;
 
 impl NextValue for NumberValues {
@@ -65,7 +65,7 @@ impl NextValue for NumberValues {
     }
 }
 
-/// Of STRING first.
+/// Reads values of STRING first.
 pub(crate) struct TextValues;
 
 impl NextValue for TextValues {
@@ -78,7 +78,7 @@ impl NextValue for TextValues {
     }
 }
 
-/// Of lists first.
+/// Reads values of lists first.
 pub(crate) struct ListValues;
 
 impl NextValue for ListValues {

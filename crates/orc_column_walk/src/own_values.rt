@@ -1,4 +1,4 @@
-//! The end of a column's values, whatever its kind: of values, or of the sizes of lists or maps.
+//! The end of a column's values, for every kind: of values, or of the sizes of lists or maps.
 ghost use Rattle.std.specs.Prelude.{[], true, MatchBool};
 ghost use Rattle.orc_values.specs.Views.{shape};
 ghost use Rattle.orc_column_reader.specs.ReaderFaults.{ListsMeet, ValuesMeet};
@@ -8,14 +8,14 @@ use orc_column_reader::{ValueSource, numbers_end, numbers_left, scalar_end, scal
 use orc_directory::{StreamKind, StripeFault, run_fault};
 use orc_values::Tree;
 
-/// Whether no size is left.
+/// Returns whether no size is left.
 fn sizes_end(source: &ValueSource<'_>) -> bool
     ensures { MatchBool result (SizesLeft source.now []) (SizesLeft source.now [] → ⊥) }
 {
     numbers_end(&source.numbers)
 }
 
-/// Whether no value of the column is left.
+/// Returns whether no value of the column is left.
 pub(crate) fn values_end(tree: &Tree, source: &ValueSource<'_>) -> bool
     ensures { MatchBool result
         (OwnValuesLeft (shape tree.now) source.now [])
@@ -29,7 +29,7 @@ pub(crate) fn values_end(tree: &Tree, source: &ValueSource<'_>) -> bool
     }
 }
 
-/// The fault of sizes that are left over.
+/// Returns the error of sizes that are left over.
 fn sizes_left(source: &ValueSource<'_>) -> StripeFault
     requires more { SizesLeft source.now [] → ⊥ }
     ensures { ListsMeet source.now true 0 result }
@@ -41,7 +41,7 @@ fn sizes_left(source: &ValueSource<'_>) -> StripeFault
     )
 }
 
-/// The fault of values that are left over.
+/// Returns the error of values that are left over.
 pub(crate) fn values_left(tree: &Tree, source: &ValueSource<'_>) -> StripeFault
     requires more { OwnValuesLeft (shape tree.now) source.now [] → ⊥ }
     ensures { ValuesMeet (shape tree.now) source.now true 0 result }

@@ -9,14 +9,14 @@ ghost use Rattle.orc_column_walk.specs.Passed.{own_children, IsPassed};
 use orc_row_groups::Counts;
 use orc_values::Own;
 
-/// The counts of the cells so far, and how many children they have, which is counted up to 2^64 - 1.
+/// The counts of the cells so far, and how many children they have, which are counted up to 2^64 - 1.
 #[derive(Clone, Copy)]
 pub(crate) struct Passed {
     pub(crate) counts: Counts,
     pub(crate) children: usize,
 }
 
-/// How many children a value has.
+/// Returns how many children a value has.
 fn children_of(own: Own<'_>) -> usize
     ensures { result ≡ own_children own.entry }
 {
@@ -28,7 +28,7 @@ fn children_of(own: Own<'_>) -> usize
 }
 
 impl Passed {
-    /// Nothing.
+    /// Returns the counts of no cells.
     pub(crate) fn nothing() -> Passed
         ensures { (s : Shape) → IsPassed s [] result }
     {
@@ -38,7 +38,7 @@ impl Passed {
         }
     }
 
-    /// The same with a value more.
+    /// Returns the counts with one more value.
     pub(crate) fn add(self, own: Own<'_>) -> Passed
         requires cells { self.counts.cells + 1 < 2 ^ 64 }
         requires values { self.counts.values + 1 < 2 ^ 64 }
@@ -56,7 +56,7 @@ impl Passed {
         }
     }
 
-    /// The same with nulls more, as many as there are cells beside the values.
+    /// Returns the counts with as many more nulls as there are cells besides the values.
     pub(crate) fn pad(self, cells: usize, values: usize) -> Passed
         requires few { values ≤ cells }
         requires cells { self.counts.cells + (cells - values) < 2 ^ 64 }

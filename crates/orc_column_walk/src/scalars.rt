@@ -1,4 +1,4 @@
-//! The values of a column of a kind that contains no other, read to the end of their streams.
+//! The values of a column whose kind contains no other type, read to the end of their streams.
 ghost use Rattle.std.specs.Prelude.{◌≡◌, ◌≢◌, ◌+◌, ℕ, Bool, false, List, length, IfOk, IfErr, OnOk, OnErr};
 ghost use Rattle.orc_values.specs.Cells.{Cell};
 ghost use Rattle.orc_column_reader.specs.Columns.{ScalarLeft};
@@ -11,7 +11,7 @@ use orc_column_reader::{ValueSource, scalar_end, scalar_left};
 use orc_directory::StripeFault;
 use orc_values::Scalar;
 
-/// Reads the next values, so many, and holds none.
+/// Reads the next `count` values and keeps none.
 fn skip_scalars(source: &mut ValueSource<'_>, kind: Scalar, count: usize) -> Result<(), StripeFault>
     ensures found { OnOk result ((values : List Cell)
         × (length values ≡ count)
@@ -28,7 +28,7 @@ fn skip_scalars(source: &mut ValueSource<'_>, kind: Scalar, count: usize) -> Res
     Ok(())
 }
 
-/// Reads all values, which are to be so many.
+/// Reads all values, of which there must be `count`.
 pub(crate) fn read_scalars(
     source: &mut ValueSource<'_>,
     kind: Scalar,

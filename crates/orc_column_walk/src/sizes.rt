@@ -1,4 +1,4 @@
-//! The sizes of a column of lists, or of maps, read to the end of LENGTH.
+//! The sizes of lists or maps, read to the end of LENGTH.
 ghost use Rattle.std.specs.Prelude.{◌≡◌, ◌≢◌, ◌+◌, ◌≤◌, ℕ, Bool, false, List, length, sum, IfOk, IfErr, OnOk, OnErr};
 ghost use Rattle.orc_column_reader.specs.Fronts.{Leaves, Lacks};
 ghost use Rattle.orc_column_reader.specs.ReaderFaults.{ListsMeet};
@@ -9,7 +9,7 @@ ghost use Rattle.orc_column_walk.specs.OwnLeft.{SizesLeft};
 use orc_column_reader::{ValueSource, next_size, numbers_end, numbers_left};
 use orc_directory::{StreamKind, StripeFault, run_fault};
 
-/// Reads the next sizes, so many, and answers how many elements the lists have together, or pairs the maps.
+/// Reads the next `count` sizes and returns their sum, which is how many elements or pairs there are.
 fn add_sizes(source: &mut ValueSource<'_>, count: usize) -> Result<usize, StripeFault>
     ensures found { IfOk result (λ together. (sizes : List ℕ)
         × (length sizes ≡ count)
@@ -22,7 +22,7 @@ fn add_sizes(source: &mut ValueSource<'_>, count: usize) -> Result<usize, Stripe
         → ListsMeet source.old all (count + n) f) }
     ensures fault { IfErr result (λ cause. cause ≢ OutOfMemory → ListsMeet source.old false count cause) }
 {
-    // for the proof, which knows that the room is a number of 64 bits where it is read
+    // for the proof: a number that is read is known to fit 64 bits
     let _room = source.room;
     let mut together = 0;
     for _ in 0..count {
@@ -32,7 +32,7 @@ fn add_sizes(source: &mut ValueSource<'_>, count: usize) -> Result<usize, Stripe
     Ok(together)
 }
 
-/// Reads all sizes, which are to be so many, and answers their sum.
+/// Reads all sizes, of which there must be `count`, and returns their sum.
 pub(crate) fn sum_sizes(source: &mut ValueSource<'_>, count: usize) -> Result<usize, StripeFault>
     ensures found { IfOk result (λ together. (sizes : List ℕ)
         × (length sizes ≡ count)

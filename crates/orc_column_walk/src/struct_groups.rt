@@ -1,4 +1,4 @@
-//! A column of structs: its groups are counted by its marks alone, each at once.
+//! A column of structs, whose groups are counted from its marks alone, without a step for each cell.
 ghost use Rattle.std.specs.Prelude.{◌≡◌, ◌<◌, ℕ, Some, nat_lt, List, replicate, IfOk};
 ghost use Rattle.orc_values.specs.Cells.{Cell};
 ghost use Rattle.orc_values.specs.Childless.{childless_struct};
@@ -16,7 +16,7 @@ use orc_row_groups::Counts;
 use orc_stats::{Body, Stat};
 use std::alloc::{AllocError, Global};
 
-/// The statistic of so many cells of which so many are structs, and the others null.
+/// Returns the statistic of `cells` cells, of which `values` are structs and the others null.
 fn struct_stat(cells: usize, values: usize) -> Stat
     ensures count { result.count ≡ values }
     ensures nulls { result.nulls ≡ Some (nat_lt values cells) }
@@ -29,8 +29,8 @@ fn struct_stat(cells: usize, values: usize) -> Stat
     }
 }
 
-/// What is found of a column of so many structs and nulls. A bound says how many of the cells come before a group, and
-/// another how many of the structs.
+/// Returns what is found about a column of structs and nulls. `bounds` are how many of the cells come before each
+/// group, and `marked` has how many of the structs.
 pub(crate) fn find_structs(
     alloc: Global,
     count: usize,

@@ -1,4 +1,4 @@
-//! The values of a column by themselves, whatever its kind, and how many children they have.
+//! The values of a column without those below it, for every kind, and how many children they have.
 ghost use Rattle.std.specs.Prelude.{◌≡◌, ◌≢◌, Bool, List, length, IfOk, IfErr};
 ghost use Rattle.orc_values.specs.Cells.{Cell};
 ghost use Rattle.orc_values.specs.Views.{shape};
@@ -12,8 +12,8 @@ use orc_column_reader::ValueSource;
 use orc_directory::StripeFault;
 use orc_values::Tree;
 
-/// Reads all values of a column, which are to be so many, and answers how many children they have: elements of lists,
-/// pairs of maps, or structs, each of which has one in each field.
+/// Reads all values of a column, of which there must be `count`, and returns how many children they have: elements of
+/// lists, pairs of maps, or structs, each of which has one child in each field.
 pub(crate) fn read_values(
     tree: &Tree,
     source: &mut ValueSource<'_>,

@@ -20,7 +20,7 @@ use orc_values::{Field, MOST_CELLS, Tree};
 use orc_wire::StripeFooter;
 use std::alloc::Global;
 
-/// Reads a column of so many cells from its own streams, and answers how many children they have.
+/// Reads a column of `count` cells from its own streams, and returns how many children they have.
 fn read_column(
     alloc: Global,
     tree: &Tree,
@@ -53,8 +53,8 @@ fn read_column(
     }
 }
 
-/// Reads a column of so many cells, and then those below it, each with as many cells as the one above has children.
-/// It answers the number of the column that comes next.
+/// Reads a column of `count` cells, and then those below it, each with as many cells as the one above has children.
+/// Returns the number of the column that comes next.
 #[cycle(walking)]
 fn walk_tree(
     alloc: Global,
@@ -104,8 +104,8 @@ fn walk_tree(
     }
 }
 
-/// Reads the columns of the fields of so many structs, one field after the other, and answers the number of the column
-/// that comes next.
+/// Reads the columns of the fields of `count` structs, one field after the other, and returns the number of the
+/// column that comes next.
 #[cycle(walking)]
 fn walk_fields(
     alloc: Global,
@@ -137,12 +137,16 @@ fn walk_fields(
     Ok(next)
 }
 
-/// Reads a stripe's columns, one after the other, and tests that they spell so many rows of the type. No row is made. A
-/// struct's column without PRESENT is counted at once, so that the time is that of the bytes and of the columns.
+/// Reads a stripe's columns, one after the other, and tests that they store `rows` rows of the type (ORC
+/// specification, "Column Encodings"). No row is made. The cells of a struct's column without PRESENT aren't read one
+/// by one, so the time depends only on the bytes and the columns.
 ///
-/// Refusals: those of a stripe's rows, which come column by column here: the fault of a column that doesn't
-/// spell as many cells as the column above has children. `TooMany(0)` where the rows are more than 2,147,483,647;
-/// `OutOfMemory`.
+/// # Errors
+///
+/// - The errors of a stripe's rows, column by column: that of the first column that doesn't store as many cells as
+///   the column above has children.
+/// - `TooMany(0)`, if there are more than 2,147,483,647 rows.
+/// - `OutOfMemory`.
 pub fn walk_columns(
     alloc: Global,
     tree: &Tree,
@@ -153,12 +157,15 @@ pub fn walk_columns(
     requires there { width (shape tree.now) ≤ length footer.now.columns }
     requires located { AreLocated (length footer.now.columns) footer.now.streams
         located.now.bytes.now located.now.slices.items }
-    // Where columns have encodings, and streams as the directory gives them, the verdict is good
-    // only where there are rows, so many, whose cells these spell, and nothing more.
+    // If the columns of the type have encodings in `footer`, `located` has the streams that `footer` names, and the
+    // call succeeds, then there are `rows` rows of the type which the columns store, and the columns store nothing
+    // more.
     ensures found { OnOk result ((cells : List Cell)
         × SpellRows (shape tree.now) (columns_of footer.now located.now.bytes.now) rows cells) }
-    // A refusal other than want of memory stands: there are no so many rows, and it is TooMany(0)
-    // for 2^31 rows or more, or a fault of a column, of so many cells as those above give it.
+    // If the columns of the type have encodings in `footer`, `located` has the streams that `footer` names, and the
+    // call fails other than with `OutOfMemory`, then the columns don't store `rows` rows of the type; the error is
+    // `TooMany(0)` with at least 2^31 rows, or the error of a column that needs as many cells as the columns above
+    // store for it.
     ensures fault { IfErr result (λ cause. cause ≢ OutOfMemory
         → RowsFault (shape tree.now) (columns_of footer.now located.now.bytes.now) rows cause) }
 {

@@ -12,15 +12,21 @@ use orc_column_reader::{
 use orc_directory::{StreamKind, StripeFault, run_fault};
 use orc_values::{Field, Tree, width_of};
 
-/// Tests that no cell of a column is left, nor of the columns below it.
+/// Tests that no cell of a column and of the columns below it is left.
+///
+/// # Errors
+///
+/// - `Run`, if marks, sizes or values in runs are left over.
+/// - `LengthSum`, if the bytes of texts or byte strings are left over.
 #[cycle(ending)]
 pub fn cells_end(tree: &Tree, readers: &[ColumnReader<'_>]) -> Result<(), StripeFault>
     requires { length readers.now ≡ width (shape tree.now) }
-    // The readers, one for each column of the type, are accepted exactly where nothing is left
-    // over.
+    // If there is one reader for each column of the type, then the call succeeds if and only if the readers have no
+    // cell left.
     ensures all { OnOk result (CellsLeft (shape tree.now) readers.now []) }
     ensures more { OnErr result (CellsLeft (shape tree.now) readers.now [] → ⊥) }
-    // A refusal is a fault that the readers meet that are to give no cell more.
+    // If there is one reader for each column of the type, then an error is one that the readers meet which must have
+    // given all cells.
     ensures fault { IfErr result (CellsMeet (shape tree.now) readers.now true 0) }
 {
     let own = &readers[0];
@@ -34,7 +40,7 @@ pub fn cells_end(tree: &Tree, readers: &[ColumnReader<'_>]) -> Result<(), Stripe
     values_end(tree, readers)
 }
 
-/// Tests that no value of a column is left, nor a cell of the columns below it.
+/// Tests that no value of a column and no cell of the columns below it is left.
 #[cycle(ending)]
 fn values_end(tree: &Tree, readers: &[ColumnReader<'_>]) -> Result<(), StripeFault>
     requires { length readers.now ≡ width (shape tree.now) }
@@ -74,7 +80,7 @@ fn values_end(tree: &Tree, readers: &[ColumnReader<'_>]) -> Result<(), StripeFau
     }
 }
 
-/// Tests that no key of maps is left, and no value of their pairs.
+/// Tests that no key and no value of a map's pairs is left.
 #[cycle(ending)]
 fn pairs_end(key: &Tree, value: &Tree, readers: &[ColumnReader<'_>]) -> Result<(), StripeFault>
     requires { length readers.now ≡ width (shape key.now) + width (shape value.now) }

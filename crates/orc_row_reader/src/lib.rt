@@ -1,4 +1,4 @@
-//! Rows: columns to cells. The readers of a schema's columns, and their cells one after the other, down the schema.
+//! Rows: reads cells from the readers of a schema's columns, one after the other, down the schema.
 #![tactic(auto)]
 
 mod ending;

@@ -1,4 +1,4 @@
-//! A column's cells, one after the other: marks, values, and what lists, maps and structs have below them.
+//! The cells of a column, one after the other: marks, values, and what lists, maps and structs have below them.
 ghost use Rattle.std.specs.Prelude.{map, ◌≡◌, ◌≢◌, ◌+◌, ◌++◌, ℕ, suc, Bool, false, [], ◌∷◌, List, IfOk, IfErr, OnOk, length};
 ghost use Rattle.orc_values.specs.Cells.{Atom, Cell, leaf};
 ghost use Rattle.orc_values.specs.Own.{own_cell};
@@ -16,7 +16,7 @@ use orc_values::{Field, MapPair, Own, Row, Tree, Value, width_of};
 use std::alloc::Global;
 use std::borrow::{CowSlice, CowStr};
 
-/// A value of a kind that contains no other.
+/// Returns a value of a kind that contains no other type.
 fn value_of<'a>(own: Own<'a>) -> Value<'a>
     requires { (a : Atom) × (own_cell own ≡ leaf a) }
     ensures { cell_of_value result ≡ own_cell own.entry }
@@ -31,7 +31,12 @@ fn value_of<'a>(own: Own<'a>) -> Value<'a>
     }
 }
 
-/// The next cell of a column.
+/// Reads the next cell of a column, with all that it contains.
+///
+/// # Errors
+///
+/// - The errors of `next_mark`, `ValueSource::next_scalar` and `next_size`, for this column or one below it.
+/// - `OutOfMemory`.
 #[cycle(reader)]
 pub fn next_cell<'a>(
     alloc: Global,
@@ -39,12 +44,14 @@ pub fn next_cell<'a>(
     readers: &mut [ColumnReader<'a>],
 ) -> Result<Row<'a>, StripeFault>
     requires { length readers.old ≡ width (shape tree.now) }
-    // Where each column of the type has a reader, the answer is the first of the cells that these
-    // have left, with all that it contains, and the others are left then.
+    // If there is one reader for each column of the type, and the call succeeds, then the cells that the readers had
+    // left are the returned one, with all that it contains, followed by those left after the call.
     ensures found { IfOk result (λ row. Leaves (CellsLeft (shape tree.now) readers.old)
         (CellsLeft (shape tree.now) readers.new) (view row ∷ [])) }
-    // A refusal other than want of memory stands: the readers have no cell more, and the fault is
-    // one that they meet, now or after the cells before.
+    // If there is one reader for each column of the type, and the call fails other than with `OutOfMemory`, then the
+    // readers had no further cell, and the error is one that they met before the call, whatever number of cells above
+    // 0 they had to give. If the call succeeds, then each error that the readers meet after it with n cells to give
+    // is one that they met before with n + 1.
     ensures none { IfErr result (λ fault. fault ≢ OutOfMemory → Lacks (CellsLeft (shape tree.now) readers.old) 1) }
     ensures before { OnOk result ((all : Bool) (n : ℕ) (f : Fault) → CellsMeet (shape tree.now) readers.new all n f
         → CellsMeet (shape tree.now) readers.old all (suc n) f) }
@@ -58,7 +65,12 @@ pub fn next_cell<'a>(
     Ok(Some(value))
 }
 
-/// The next value of a column. Its marks stay as they are.
+/// Reads the next value of a column, with all that it contains. The column's marks stay as they are.
+///
+/// # Errors
+///
+/// - The errors of `ValueSource::next_scalar` and `next_size`, and for a column below also those of `next_mark`.
+/// - `OutOfMemory`.
 #[cycle(reader)]
 #[inline(always)]
 pub fn next_value<'a>(
@@ -67,15 +79,17 @@ pub fn next_value<'a>(
     readers: &mut [ColumnReader<'a>],
 ) -> Result<Value<'a>, StripeFault>
     requires { length readers.old ≡ width (shape tree.now) }
-    // Where each column of the type has a reader, the answer is the first of the values that these
-    // have left, with all that it contains, and the others are left then.
+    // If there is one reader for each column of the type, and the call succeeds, then the values that the readers had
+    // left are the returned one, with all that it contains, followed by those left after the call.
     ensures found { IfOk result (λ value. Leaves (OwnLeft (shape tree.now) readers.old)
         (OwnLeft (shape tree.now) readers.new) (cell_of_value value ∷ [])) }
-    // With an answer the column's number and its marks stay as they are.
+    // If the call succeeds, then the column's number and its marks stay as they are.
     ensures column { OnOk result (column_of readers.new ≡ column_of readers.old) }
     ensures marks { IfOk result (λ _. marks_of readers.new ≡ marks_of readers.old) }
-    // A refusal other than want of memory stands: the readers have no value more, and the fault is
-    // one that they meet, now or after the values before.
+    // If there is one reader for each column of the type, and the call fails other than with `OutOfMemory`, then the
+    // readers had no further value, and the error is one that they met before the call, whatever number of values
+    // above 0 they had to give. If the call succeeds, then each error that the readers meet after it with n values to
+    // give is one that they met before with n + 1.
     ensures none { IfErr result (λ fault. fault ≢ OutOfMemory → Lacks (OwnLeft (shape tree.now) readers.old) 1) }
     ensures before { OnOk result ((all : Bool) (n : ℕ) (f : Fault) → OwnMeet (shape tree.now) readers.new all n f
         → OwnMeet (shape tree.now) readers.old all (suc n) f) }
@@ -94,7 +108,7 @@ pub fn next_value<'a>(
     }
 }
 
-/// The elements of the next list.
+/// Reads the elements of the next list.
 #[cycle(reader)]
 fn next_list<'a>(
     alloc: Global,
@@ -116,7 +130,7 @@ fn next_list<'a>(
     next_cells(alloc, element, &mut readers[1..], size)
 }
 
-/// The pairs of the next map.
+/// Reads the pairs of the next map.
 #[cycle(reader)]
 fn next_map<'a>(
     alloc: Global,
@@ -141,7 +155,7 @@ fn next_map<'a>(
     next_pairs(alloc, key, value, &mut readers[1..], size)
 }
 
-/// The next pairs of a map's columns, so many.
+/// Reads the next `count` pairs from the columns below a map.
 #[cycle(reader)]
 fn next_pairs<'a>(
     alloc: Global,
@@ -170,7 +184,7 @@ fn next_pairs<'a>(
     Ok(pairs)
 }
 
-/// The next pair: a cell of the key's columns, and one of the value's.
+/// Reads the next pair: a cell of the key's columns and one of the value's.
 #[cycle(reader)]
 fn next_pair<'a>(
     alloc: Global,
@@ -198,7 +212,11 @@ fn next_pair<'a>(
     })
 }
 
-/// The next cells of a column, so many.
+/// Reads the next `count` cells of a column, with all that they contain.
+///
+/// # Errors
+///
+/// Those of `next_cell`.
 #[cycle(reader)]
 pub fn next_cells<'a>(
     alloc: Global,
@@ -207,13 +225,16 @@ pub fn next_cells<'a>(
     count: u64,
 ) -> Result<Vec<Row<'a>>, StripeFault>
     requires { length readers.old ≡ width (shape tree.now) }
-    // Where each column of the type has a reader, the answer is so many of the cells that these
-    // have left, the first ones, in order, and the others are left then.
+    // If there is one reader for each column of the type, and the call succeeds, then it returns `count` cells, and
+    // the cells that the readers had left are these, with all that they contain, followed by those left after the
+    // call.
     ensures found { IfOk result (λ rows. Leaves (CellsLeft (shape tree.now) readers.old)
         (CellsLeft (shape tree.now) readers.new) (views rows.items)) }
     ensures counted { IfOk result (λ rows. length (views rows.items) ≡ count) }
-    // A refusal other than want of memory stands: the readers don't have so many cells left, and
-    // the fault is one that they meet, now or after the cells before.
+    // If there is one reader for each column of the type, and the call fails other than with `OutOfMemory`, then the
+    // readers had fewer than `count` cells, and the error is one that they met before the call, whatever number of
+    // cells from `count` on they had to give. If the call succeeds, then each error that the readers meet after it
+    // with n cells to give is one that they met before with `count` + n.
     ensures none { IfErr result (λ fault. fault ≢ OutOfMemory → Lacks (CellsLeft (shape tree.now) readers.old) count) }
     ensures before { OnOk result ((all : Bool) (n : ℕ) (f : Fault) → CellsMeet (shape tree.now) readers.new all n f
         → CellsMeet (shape tree.now) readers.old all (count + n) f) }
@@ -228,7 +249,7 @@ pub fn next_cells<'a>(
     Ok(rows)
 }
 
-/// The next struct's cells, one of each field, at the end of those that are there.
+/// Puts the cells of the next struct, one for each field, after those that are there.
 #[cycle(reader)]
 fn next_fields<'a>(
     alloc: Global,

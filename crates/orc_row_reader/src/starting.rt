@@ -16,7 +16,11 @@ use orc_values::{Field, Tree};
 use orc_wire::StripeFooter;
 use std::alloc::Global;
 
-/// The readers of a column and of those below it, at the end of those of the columns before.
+/// Puts the readers of a column and of those below it after those of the columns before.
+///
+/// # Errors
+///
+/// Those of `reader_of`, for any of these columns.
 #[cycle(starting)]
 pub fn put_tree<'a>(
     alloc: Global,
@@ -28,12 +32,14 @@ pub fn put_tree<'a>(
     requires there { length readers.old.items + width (shape tree.now) ≤ length footer.now.columns }
     requires located { AreLocated (length footer.now.columns) footer.now.streams
         located.now.bytes.now located.now.slices.items }
-    // Where the directory's streams are located, readers of the column and of those below it come
-    // behind those before, each at the start of its streams, with its column's number.
+    // If the columns have encodings in `footer`, `located` has the streams that `footer` names, and the call
+    // succeeds, then one reader for the column and for each column below it was put after those that were there, in
+    // the order of the columns' numbers, each at the start of its streams.
     ensures found { OnOk result (PutsReaders footer.now located.now.bytes.now
         (shape tree.now) readers.old.items readers.new.items) }
-    // A refusal other than want of memory stands: the streams spell no cells of the type, and the
-    // fault is one of these columns, however many cells are wanted.
+    // If the columns have encodings in `footer`, `located` has the streams that `footer` names, and the call fails
+    // other than with `OutOfMemory`, then the streams store no list of cells of the type, and the error is one of
+    // these columns, whatever number of cells is needed.
     ensures none { IfErr result (λ fault. fault ≢ OutOfMemory → (cells : List Cell)
         → SpellsCells (shape tree.now) (columns_from footer.now located.now.bytes.now (length readers.old.items)) cells
         → ⊥) }
@@ -54,7 +60,7 @@ pub fn put_tree<'a>(
     }
 }
 
-/// The readers of the fields' columns, at the end of those of the columns before.
+/// Puts the readers of the fields' columns after those of the columns before.
 #[cycle(starting)]
 fn put_fields<'a>(
     alloc: Global,
