@@ -8,8 +8,8 @@ use Rattle.orc_stats.specs.declared.stat.Stat.{Stat}
 use Rattle.orc_row_index.specs.Positions.{ArePositions, writer}
 use Rattle.orc_row_index.specs.RunStreams.{RunStream}
 
--- The canonical text of an index with this one entry: the writer's positions behind the cells before the group, and a
--- statistic. The text of an index of several entries is theirs, one behind the other.
+-- The canonical text of an index with one entry: the writer's positions after the cells before the group, and a
+-- statistic. The text of an index with several entries is that of each, one after the other.
 pub record IsEntryText (present : RunStream) (content : Option (List ℕ)) (own : RunStream) (before : List Cell)
     (stat : Stat) (text : List ℕ) : Type 0 where
   pub entry : RowIndexEntry

@@ -20,7 +20,7 @@ use Rattle.orc_values.specs.Columns.{cells}
 use Rattle.orc_directory.specs.Directory.{has_stream, slice}
 use Rattle.orc_row_groups.specs.Groups.{starts_of_groups, bounds_of}
 
--- the entry of a group: the positions behind the cells before it, and the statistic of its own
+-- the entry of a group: the positions after the cells before the group, and the statistic of the group's cells
 pub record IsWrittenEntry (s : Shape) (x : Streams) (before group : List Cell) (entry : RowIndexEntry) : Type 0 where
   pub positions : AreWrittenPositions s x before entry.positions
   pub statistics : entry.statistics ≡ Some (message_of (stat (kind_of s) group))
@@ -40,15 +40,15 @@ pub record IsWrittenIndex (s : Shape) (x : Streams) (cells : List Cell) (bounds 
   pub text_is : text ≡ row_index_text.text (record { entries = entries })
   pub spelled : Spells row_index 0 0 text (record { entries = entries })
 
--- an entry says the statistic of the group's cells
+-- an entry stores the statistic of the group's cells
 abbrev pub SaysStat : Shape → List Cell → RowIndexEntry → Type 0
 SaysStat s group entry =
     (message : ColumnStats)
     × (entry.statistics ≡ Some message)
     × (stat_read (kind_of s) message ≡ stat (kind_of s) group)
 
--- Bytes that a reader takes for the index of these groups: as many entries as bounds, each with positions from which it
--- goes on, and with the statistic of its group.
+-- The bytes are right for every reader as the index of these groups: there are as many entries as bounds, each with
+-- positions from which a reader goes on, and with the statistic of its group.
 pub record IsRightIndex (s : Shape) (x : Streams) (cells : List Cell) (bounds text : List ℕ) : Type 0 where
   pub message : RowIndexMsg
   pub spelled : Spells row_index 0 0 text message
@@ -60,7 +60,7 @@ pub record IsRightIndex (s : Shape) (x : Streams) (cells : List Cell) (bounds te
       → slice_get message.entries g ≡ Some entry
       → SaysStat s (group_of cells bounds g) entry
 
--- the directory lists an index of column c, and it is right for a reader of the stripe
+-- the directory names an index of column c, and it is right for every reader of the stripe
 abbrev pub HasRightIndex : ℕ → Shape → List Cell → StripeFooter → List ℕ → ℕ → Type 0
 HasRightIndex stride s rows footer bytes c =
     (has_stream c ROW_INDEX footer.streams ≡ true)

@@ -10,25 +10,25 @@ use Rattle.orc_column_reader.specs.Stripe.{Streams, version, has_dictionary, in_
 use Rattle.orc_directory.specs.declared.fault.StreamKind.{StreamKind}
 use Rattle.orc_directory.specs.declared.fault.StreamKind.TheVariants as stream
 
--- a stream of runs, by what they are of; a column may lack it
+-- a stream of runs, by the kind of its values; a column may lack it
 pub data RunStream : Type 0 where
   no_stream : RunStream
   bit_runs : List ℕ → RunStream
   byte_runs : List ℕ → RunStream
   number_runs : Rle → Sign → List ℕ → RunStream
 
--- PRESENT has positions where it has bytes
+-- PRESENT has positions if it has bytes
 abbrev pub present_runs : List ℕ → RunStream
 present_runs [] = no_stream
 present_runs (b ∷ bs) = bit_runs (b ∷ bs)
 
--- of texts: DATA has their places in the dictionary, or LENGTH their lengths;
--- a dictionary's own streams have no positions
+-- For texts, DATA has their indexes in the dictionary, or LENGTH has their lengths. The streams of the dictionary
+-- have no positions.
 abbrev pub text_runs : Bool → Streams → RunStream
 text_runs true x = number_runs (version x) Unsigned (in_data x)
 text_runs false x = number_runs (version x) Unsigned (in_length x)
 
--- the stream of runs of a column of single values
+-- the stream of runs besides PRESENT of a column whose kind contains no other type
 abbrev pub scalar_runs : Scalar → Streams → RunStream
 scalar_runs kind.Boolean x = bit_runs (in_data x)
 scalar_runs kind.Byte x = byte_runs (in_data x)
@@ -39,19 +39,19 @@ scalar_runs kind.Date x = number_runs (version x) Signed (in_data x)
 scalar_runs kind.Binary x = number_runs (version x) Unsigned (in_length x)
 scalar_runs kind.String x = text_runs (has_dictionary x) x
 
--- the stream of runs that a column has beside PRESENT: DATA or LENGTH, and a struct none
+-- the stream of runs that a column has besides PRESENT: DATA or LENGTH; a struct has none
 abbrev pub value_runs : Shape → Streams → RunStream
 value_runs (scalar k o) x = scalar_runs k x
 value_runs (list_of s o) x = number_runs (version x) Unsigned (in_length x)
 value_runs (map_of k v o) x = number_runs (version x) Unsigned (in_length x)
 value_runs (struct_of fs o) x = no_stream
 
--- which stream of a column of strings has runs: DATA with a dictionary, else LENGTH
+-- which stream of a column of texts has runs: DATA with a dictionary, else LENGTH
 abbrev pub kind_of_texts : Bool → StreamKind
 kind_of_texts true = stream.Data
 kind_of_texts false = stream.Length
 
--- which stream of a column of single values has runs
+-- which stream has runs for a column whose kind contains no other type
 abbrev pub run_stream_kind : Scalar → Bool → StreamKind
 run_stream_kind kind.Boolean d = stream.Data
 run_stream_kind kind.Byte d = stream.Data
@@ -62,25 +62,25 @@ run_stream_kind kind.Date d = stream.Data
 run_stream_kind kind.Binary d = stream.Length
 run_stream_kind kind.String d = kind_of_texts d
 
--- which stream has the runs beside PRESENT
+-- which stream has the runs besides PRESENT
 abbrev pub kind_of_values : Shape → Bool → StreamKind
 kind_of_values (scalar k o) d = run_stream_kind k d
 kind_of_values (list_of s o) d = stream.Length
 kind_of_values (map_of k v o) d = stream.Length
 kind_of_values (struct_of fs o) d = stream.Data
 
--- the bytes of strings that aren't in a dictionary
+-- the plain bytes of texts that aren't in a dictionary
 abbrev pub text_octets : Bool → Streams → Option (List ℕ)
 text_octets true x = None
 text_octets false x = Some (in_data x)
 
--- a column's stream of bytes that isn't in runs, if it has one
+-- the plain bytes of a column's values, if its kind has such a stream
 abbrev pub scalar_octets : Scalar → Streams → Option (List ℕ)
 scalar_octets kind.Binary x = Some (in_data x)
 scalar_octets kind.String x = text_octets (has_dictionary x) x
 scalar_octets _ x = None
 
--- DATA, where it has the bytes of the values as they are, one value after the other
+-- DATA, if it has the plain bytes of the values, one after the other
 abbrev pub value_bytes : Shape → Streams → Option (List ℕ)
 value_bytes (scalar k o) x = scalar_octets k x
 value_bytes _ x = None

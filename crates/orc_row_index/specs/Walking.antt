@@ -16,14 +16,14 @@ use Rattle.orc_row_index.specs.declared.run_bytes.RunBytes.TheVariants as run_by
 use Rattle.orc_row_index.specs.declared.walk.Walk.{Walk}
 use Rattle.orc_row_index.specs.declared.placed.PlacedStreams.{PlacedStreams}
 
--- bytes in runs as the stream that they are
+-- bytes in runs as the stream that they mean
 abbrev pub runs : RunBytes → RunStream
 runs run_bytes.Nothing = no_stream
 runs (run_bytes.Bits b) = bit_runs b.now
 runs (run_bytes.Bytes b) = byte_runs b.now
 runs (run_bytes.Numbers version sign b) = number_runs version sign b.now
 
--- bytes that are lent, if there are any
+-- borrowed bytes, if there are any
 abbrev pub lent_bytes : Option (Bor (List ℕ)) → Option (List ℕ)
 lent_bytes lent = option_map (λ b. b.now) lent
 
@@ -40,7 +40,7 @@ HasPosition (bit_runs stream) n = HasValues IsByteRun stream (n / 8)
 HasPosition (byte_runs stream) n = HasValues IsByteRun stream n
 HasPosition (number_runs version sign stream) n = HasValues (is_run version sign) stream n
 
--- a run start in the stream that isn't behind value n
+-- a start of a run in the stream that isn't after value n
 abbrev pub BeginsBefore : RunStream → RunStart → ℕ → Type 0
 BeginsBefore no_stream run_start n = Unit {0}
 BeginsBefore (bit_runs stream) run_start n = IsRunStart IsByteRun stream run_start × (run_start.before ≤ n / 8)
@@ -48,7 +48,7 @@ BeginsBefore (byte_runs stream) run_start n = IsRunStart IsByteRun stream run_st
 BeginsBefore (number_runs version sign stream) run_start n =
     IsRunStart (is_run version sign) stream run_start × (run_start.before ≤ n)
 
--- bytes as they are are n or more
+-- there are at least n plain bytes, if there is such a stream
 abbrev pub HasOctets : Option (List ℕ) → ℕ → Type 0
 HasOctets None n = Unit {0}
 HasOctets (Some stream) n = n ≤ length stream

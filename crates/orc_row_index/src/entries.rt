@@ -1,4 +1,4 @@
-//! The entries of a column's row index, group by group, and the statistic of its cells.
+//! The entries of a column's row index, group by group, and the statistic of the column's cells.
 ghost use Rattle.std.specs.Prelude.{◌≡◌, List, length, IfOk, OnOk};
 ghost use Rattle.orc_wire.specs.CanonicalText.{KeepsFront};
 ghost use Rattle.orc_values.specs.Cells.{Cell};
@@ -23,8 +23,8 @@ use orc_stats::{Bins, Bools, Children, Counted, Dates, Ints, Plain, Stat, StatKi
 use orc_values::{Own, Tree};
 use std::alloc::{AllocError, Global};
 
-/// Adds the entries, counted by one kind of tally: the statistic of all cells is joined of those of the groups, and of
-/// the cells before the first one.
+/// Adds the entries, counted with one kind of tally. The statistic of all cells is joined from those of the groups
+/// and that of the cells before the first group.
 fn put_groups<'r, T: Tally<'r>>(
     alloc: Global,
     tree: &Tree,
@@ -68,10 +68,12 @@ fn put_groups<'r, T: Tally<'r>>(
     statistic_of(alloc, &whole)
 }
 
-/// Adds the bytes of the entries of a column's row index, one for each bound, and answers the statistic of its cells,
-/// each of which is counted once, for its group.
+/// Adds the bytes of the entries of a column's row index, one for each bound, and returns the statistic of the cells.
+/// Each cell is counted once, for its group.
 ///
-/// Refusal: want of memory, behind which a part of the bytes may stand.
+/// # Errors
+///
+/// `AllocError`, if there is no memory. A part of the bytes may have been added then.
 pub(crate) fn put_entries(
     alloc: Global,
     tree: &Tree,

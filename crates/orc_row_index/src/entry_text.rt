@@ -15,10 +15,10 @@ use orc_wire::{ColumnStats, Items, Message, RowIndexEntry};
 use std::alloc::{AllocError, Global};
 use std::mem::replace;
 
-/// The number of an entry's field in a row index.
+/// The field number of an entry in a row index.
 const ENTRY: u32 = 1;
 
-/// The message of a statistic.
+/// Returns the message of a statistic.
 #[inline(always)]
 fn message_of(alloc: Global, stat: &Stat) -> Result<ColumnStats, AllocError>
     ensures { IfOk result (λ message. message ≡ spec.message_of stat.now) }
@@ -30,12 +30,15 @@ fn message_of(alloc: Global, stat: &Stat) -> Result<ColumnStats, AllocError>
 }
 
 /// Adds the bytes of a group's entry to those of a column's row index (ORC specification, "Row Group Index"): the
-/// positions behind the cells that are counted, and the group's statistic. Answers how far the streams are walked then.
-/// The room is for the numbers of the positions; whatever it holds is no longer needed.
+/// positions after the counted cells, and the group's statistic. Returns how far the streams are walked then. `room`
+/// is for the numbers of the positions; what it contains is dropped.
 ///
-/// The counts are of cells whose values the streams have, and the walk has come no further than these: conditions.
+/// `counts` must be those of cells whose values the streams have, and the walk must have come no further than these
+/// cells.
 ///
-/// Refusal: want of memory, which leaves `out` as it was.
+/// # Errors
+///
+/// `AllocError`, if there is no memory. `out` stays as it was then.
 #[inline(always)]
 pub fn put_entry(
     alloc: Global,
@@ -50,17 +53,18 @@ pub fn put_entry(
         × AreCounted counts before
         × HavePositions (runs placed.now.present) (lent_bytes placed.now.content) (runs placed.now.own) before
         × WalkedBefore (runs placed.now.present) (runs placed.now.own) from before }
-    // Where so much is counted of cells whose values the streams have, the one text of the entry is
-    // added: the writer's positions behind them, and the statistic.
+    // If `counts` are those of cells whose values the streams have, the walk has come no further than these cells,
+    // and the call succeeds, then the canonical text of one entry was put at the end of `out`: the writer's positions
+    // after these cells, and `stat`.
     ensures entry { (before : List Cell) → AreCounted counts before
         → HavePositions (runs placed.now.present) (lent_bytes placed.now.content) (runs placed.now.own) before
         → OnOk result (AddsPositions (IsEntryText (runs placed.now.present) (lent_bytes placed.now.content)
         (runs placed.now.own) before stat.now) out.old.items out.new.items) }
-    // The walk has come no further than these cells.
+    // If the call succeeds, then the returned walk has come no further than cells of which `counts` are the counts.
     ensures walked { IfOk result (λ walk. (before : List Cell)
         → AreCounted counts before
         → WalkedBefore (runs placed.now.present) (runs placed.now.own) walk before) }
-    // Where memory is refused, nothing is added.
+    // If the call fails, then `out` stays as it was.
     ensures unchanged { OnErr result (out.new.items ≡ out.old.items) }
 {
     room.clear();

@@ -1,4 +1,4 @@
-//! Row indexes: where each group of a column's cells begins in its streams, and the statistic of the group.
+//! Row indexes: where each group of a column's cells begins in the column's streams, and the statistic of the group.
 #![tactic(auto)]
 
 mod entries;

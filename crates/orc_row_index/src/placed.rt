@@ -18,18 +18,18 @@ use orc_row_groups::Counts;
 use orc_values::{Scalar, Tree};
 use std::alloc::AllocError;
 
-/// The streams of a column that have positions, in the order of these (ORC specification, "Row Group Index").
+/// The streams of a column that have positions, in the order of the positions (ORC specification, "Row Group Index").
 #[derive(Clone, Copy)]
 pub struct PlacedStreams<'a> {
-    /// PRESENT, where it has bytes.
+    /// PRESENT, if it has bytes.
     pub present: RunBytes<'a>,
-    /// DATA, where it has the bytes of texts or byte strings as they are.
+    /// DATA, if it has the plain bytes of texts or byte strings.
     pub content: Option<&'a [u8]>,
-    /// The stream of runs beside PRESENT: DATA or LENGTH, and none of a struct.
+    /// The stream of runs besides PRESENT: DATA or LENGTH. A struct has none.
     pub own: RunBytes<'a>,
 }
 
-/// PRESENT, where it has bytes.
+/// Returns PRESENT, if it has bytes.
 fn present_of(bytes: &[u8]) -> RunBytes<'_>
     ensures { runs result ≡ present_runs bytes.now }
 {
@@ -39,7 +39,7 @@ fn present_of(bytes: &[u8]) -> RunBytes<'_>
     }
 }
 
-/// The stream of runs beside PRESENT, of a column of a kind that contains no other.
+/// Returns the stream of runs besides PRESENT of a column whose kind contains no other type.
 fn scalar_stream<'a>(kind: Scalar, streams: &ColumnStreams<'a>) -> RunBytes<'a>
     ensures { (x : Streams) → AreStreams x streams.now → runs result ≡ scalar_runs kind x }
 {
@@ -54,7 +54,7 @@ fn scalar_stream<'a>(kind: Scalar, streams: &ColumnStreams<'a>) -> RunBytes<'a>
     }
 }
 
-/// The same of a column of texts.
+/// Returns the stream of runs besides PRESENT of a column of texts.
 fn text_stream<'a>(streams: &ColumnStreams<'a>) -> RunBytes<'a>
     ensures { (x : Streams) → AreStreams x streams.now → runs result ≡ text_runs streams.now.has_dictionary x }
 {
@@ -65,7 +65,7 @@ fn text_stream<'a>(streams: &ColumnStreams<'a>) -> RunBytes<'a>
     }
 }
 
-/// DATA, where it has the bytes of the values as they are.
+/// Returns DATA, if it has the plain bytes of the values.
 fn scalar_content<'a>(kind: Scalar, streams: &ColumnStreams<'a>) -> Option<&'a [u8]>
     ensures { (x : Streams) → AreStreams x streams.now → lent_bytes result ≡ scalar_octets kind x }
 {
@@ -76,7 +76,7 @@ fn scalar_content<'a>(kind: Scalar, streams: &ColumnStreams<'a>) -> Option<&'a [
     }
 }
 
-/// The same of a column of texts.
+/// Returns DATA of a column of texts, if it has their plain bytes.
 fn text_content<'a>(streams: &ColumnStreams<'a>) -> Option<&'a [u8]>
     ensures { (x : Streams) → AreStreams x streams.now → lent_bytes result ≡ text_octets streams.now.has_dictionary x }
 {
@@ -87,10 +87,11 @@ fn text_content<'a>(streams: &ColumnStreams<'a>) -> Option<&'a [u8]>
     }
 }
 
-/// The streams of a column that have positions.
+/// Returns the streams of a column that have positions.
 pub fn placed_streams<'a>(tree: &Tree, streams: &ColumnStreams<'a>) -> PlacedStreams<'a>
-    // The streams of a column that have positions are told by its kind and encoding: PRESENT where
-    // it has bytes, DATA where it has the values' own bytes, and the runs of DATA or LENGTH.
+    // The returned streams are those of the column that have positions, by its type and encoding: PRESENT if it has
+    // bytes, DATA if it has the plain bytes of the values, and the runs of DATA or LENGTH, of which a struct has
+    // none.
     ensures { (x : Streams) → AreStreams x streams.now → ArePlaced (shape tree.now) x result }
 {
     let present = present_of(streams.present);
@@ -113,10 +114,11 @@ pub fn placed_streams<'a>(tree: &Tree, streams: &ColumnStreams<'a>) -> PlacedStr
     }
 }
 
-/// Which stream has the runs beside PRESENT.
+/// Returns which stream has the runs besides PRESENT.
 pub fn values_kind(tree: &Tree, has_dictionary: bool) -> StreamKind
-    // The stream that has a column's runs beside PRESENT is told, DATA or LENGTH: by its kind, and
-    // for texts by whether there is a dictionary; DATA for a struct, which has none.
+    // The returned kind is that of the stream that has a column's runs besides PRESENT. With a dictionary it is DATA
+    // for texts; without one it is LENGTH for texts. It is LENGTH for byte strings, lists and maps, and DATA for any
+    // other column, also for a struct, which has no such runs.
     ensures { result ≡ kind_of_values (shape tree.now) has_dictionary }
 {
     match tree {
@@ -134,8 +136,8 @@ pub fn values_kind(tree: &Tree, has_dictionary: bool) -> StreamKind
     }
 }
 
-/// Adds the position in bytes as they are, where a column has them: how many come before, which are no
-/// more than there are.
+/// Adds the position in plain bytes, if a column has such a stream: how many bytes come before, which are no more
+/// than it has.
 #[inline(always)]
 fn put_octets(content: Option<&[u8]>, octets: usize, out: &mut Vec<u64>) -> Result<(), AllocError>
     ensures { (n : ℕ) → octets ≡ min most n → HasOctets (lent_bytes content.entry) n
@@ -150,7 +152,7 @@ fn put_octets(content: Option<&[u8]>, octets: usize, out: &mut Vec<u64>) -> Resu
     }
 }
 
-/// Adds the positions behind so many cells, and answers how far the streams are walked then.
+/// Adds the positions after the counted cells, and returns how far the streams are walked then.
 #[inline(always)]
 pub(crate) fn put_positions(
     placed: &PlacedStreams<'_>,

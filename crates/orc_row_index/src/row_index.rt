@@ -18,15 +18,17 @@ use orc_stats::Stat;
 use orc_values::{Own, Tree};
 use std::alloc::{AllocError, Global};
 
-/// Adds the bytes of a column's ROW_INDEX (ORC specification, "Row Group Index"). A bound says how many of the
-/// column's cells come before a group; its entry has the positions behind these cells, and the statistic of
-/// those from there to the next bound, or to the end. Answers the statistic of all cells: each value is counted once,
-/// for its group. The cells are given as their own column says them.
+/// Adds the bytes of a column's ROW_INDEX (ORC specification, "Row Group Index"), and returns the statistic of all
+/// its cells. Each value is counted once, for its group. `bounds` are how many of the column's cells come before each
+/// group. A group's entry has the positions after these cells, and the statistic of the cells from there to the next
+/// bound, or to the end. The cells are given without their children.
 ///
-/// The streams are those of the cells, which fit the column's type, and the bounds ascend up to the number of
-/// cells: conditions.
+/// The streams must store the cells, which must fit the column's type. The bounds must never fall and be at most the
+/// number of cells.
 ///
-/// Refusal: want of memory, which leaves `out` as it was.
+/// # Errors
+///
+/// `AllocError`, if there is no memory. `out` stays as it was then.
 pub fn put_index(
     alloc: Global,
     tree: &Tree,
@@ -37,15 +39,17 @@ pub fn put_index(
 ) -> Result<Stat, AllocError>
     requires column { (cells : List Cell) × AreSpelledOwn (shape tree.now) streams.now owns.now cells }
     requires bounds { AreBounds (length owns.now) bounds.now }
-    // Where streams spell the cells, which fit, and bounds are theirs, the one text of the index is
-    // added: for each group the writer's positions behind the cells before it, and its statistic.
+    // If `owns` are cells without their children, the cells fit the type, `streams` store them, no bound is below the
+    // one before it or above the number of cells, and the call succeeds, then the one written row index of these
+    // cells and bounds was put at the end of `out`: for each group the writer's positions after the cells before it,
+    // and its statistic.
     ensures index { (cells : List Cell) → AreSpelledOwn (shape tree.now) streams.now owns.now cells
         → OnOk result ((x : Streams) → AreStreams x streams.now
         → AddsPositions (IsWrittenIndex (shape tree.now) x cells bounds.now) out.old.items out.new.items) }
-    // What is answered is the statistic of all the cells.
+    // If `owns` are cells without their children, then the returned statistic is that of all these cells.
     ensures stat { (cells : List Cell) → AreOwn owns.now cells
         → IfOk result (λ found. found ≡ stat (kind_of (shape tree.now)) cells) }
-    // Where memory is refused, nothing is added.
+    // If the call fails, then `out` stays as it was.
     ensures unchanged { OnErr result (out.new.items ≡ out.old.items) }
 {
     let start = out.len();

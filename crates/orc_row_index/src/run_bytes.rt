@@ -10,10 +10,10 @@ use orc_positions::{RunStart, byte_run_start_at, run_start_at};
 use orc_rle::{BitPos, Pos, Rle, Sign, V1, V2};
 use std::alloc::AllocError;
 
-/// The bytes of a stream of runs, by what they are of.
+/// The bytes of a stream of runs, by the kind of its values.
 #[derive(Clone, Copy)]
 pub enum RunBytes<'a> {
-    /// There is no such stream.
+    /// The column has no such stream.
     Nothing,
     /// Booleans, eight to a byte.
     Bits(&'a [u8]),
@@ -24,10 +24,9 @@ pub enum RunBytes<'a> {
 }
 
 impl RunBytes<'_> {
-    /// How many numbers a position has (ORC specification, "Row Group Index").
+    /// Returns how many numbers a position has (ORC specification, "Row Group Index").
     pub fn position_size(&self) -> usize
-        // A position has three numbers in a stream of booleans, two in one of bytes or integers,
-        // and none where there is no stream.
+        // The call returns 3 for a stream of booleans, 2 for one of bytes or integers, and 0 if there is no stream.
         ensures { result ≡ position_size (runs self.now) }
     {
         match self {
@@ -39,7 +38,7 @@ impl RunBytes<'_> {
     }
 }
 
-/// Where the run of number `n` begins, whatever the version.
+/// Returns the start of the run of number `n`, for either version.
 fn number_run_start(version: Rle, sign: Sign, bytes: &[u8], from: RunStart, n: usize) -> RunStart
     requires there { HasValues (is_run version sign) bytes.now n }
     requires from { IsRunStart (is_run version sign) bytes.now from }
@@ -75,8 +74,8 @@ fn put_bit_pos(place: BitPos, out: &mut Vec<u64>) -> Result<(), AllocError>
     Ok(())
 }
 
-/// Adds the position of value `n` of a stream, and answers where its run begins. The search begins at the start
-/// of a run that is not behind the value.
+/// Adds the position of value `n` of a stream, and returns where its run begins. The search begins at the start of a
+/// run that is not after the value.
 #[inline(always)]
 pub(crate) fn put_position(
     stream: &RunBytes<'_>,

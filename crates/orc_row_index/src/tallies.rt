@@ -8,7 +8,7 @@ use orc_stats::{Stat, Tally};
 use orc_values::Own;
 use std::alloc::{AllocError, Global};
 
-/// What is counted of cells.
+/// Returns what is counted of cells.
 pub(crate) fn tally_of<'r, T: Tally<'r>>(owns: &[Own<'r>]) -> T
     requires kind { All (λ c. is_of T.kind c ≡ true) (own_cells owns.now) }
     requires most { length owns.now ≤ 2 ^ 62 }
@@ -21,7 +21,7 @@ pub(crate) fn tally_of<'r, T: Tally<'r>>(owns: &[Own<'r>]) -> T
     tally
 }
 
-/// The statistic of what was counted.
+/// Returns the statistic of what was counted.
 pub(crate) fn statistic_of<'r, T: Tally<'r>>(alloc: Global, tally: &T) -> Result<Stat, AllocError>
     ensures { IfOk result (λ found. found ≡ stat_of_kept T.measure (T.kept tally.now)) }
 {

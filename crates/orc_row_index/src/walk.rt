@@ -1,22 +1,22 @@
-//! Where the walk through a column's streams has come.
+//! How far a walk through a column's streams has come.
 ghost use Rattle.std.specs.Prelude.{◌≡◌};
 ghost use Rattle.orc_positions.specs.RunStarts.{start_of_stream};
 
 use orc_positions::RunStart;
 
-/// How far a column's streams are walked: PRESENT, and the one beside it.
+/// How far a column's streams are walked: PRESENT, and the stream of runs besides it.
 #[derive(Clone, Copy)]
 pub struct Walk {
-    /// In PRESENT.
+    /// The place in PRESENT.
     pub present: RunStart,
-    /// In the stream of runs beside it.
+    /// The place in the stream of runs besides PRESENT.
     pub own: RunStart,
 }
 
 impl Walk {
-    /// At the start of both.
+    /// Returns a walk at the start of both streams.
     pub fn start() -> Walk
-        // A walk begins at the start of both streams.
+        // The returned walk is at the start of both streams.
         ensures present { result.present ≡ start_of_stream }
         ensures own { result.own ≡ start_of_stream }
     {

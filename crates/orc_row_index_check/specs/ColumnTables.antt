@@ -1,5 +1,5 @@
--- The runs of a column's streams, in which its positions are looked up (ORC specification, "Row Group Index",
--- "Column Encodings").
+-- The tables of the runs of a column's streams, in which its positions are looked up (ORC specification, "Row Group
+-- Index", "Column Encodings").
 use Rattle.std.specs.Prelude.{◌≡◌, ℕ, ◌⊎◌, Option, List}
 use Rattle.orc_rle.specs.declared.fault.RunFault.{RunFault}
 use Rattle.orc_values.specs.Shapes.{Shape}
@@ -20,11 +20,11 @@ pub record AreTables (present : RunStream) (content : Option (List ℕ)) (own : 
   pub of_content : lent_bytes tables.content ≡ content
   pub of_own : IsTable own tables.own
 
--- the fault of the runs of a stream of the column
+-- an error of the runs of a stream of the column
 abbrev pub FailsIn : ℕ → StreamKind → RunStream → StripeFault → Type 0
 FailsIn column kind runs fault = (cause : RunFault) × (fault ≡ Run column kind cause) × TableRunsFail runs cause
 
--- the fault of the runs of one of the column's streams that have positions
+-- an error of the runs of one of the column's streams that have positions
 abbrev pub ColumnFails : Shape → Streams → ℕ → StripeFault → Type 0
 ColumnFails s x column fault =
     FailsIn column stream.Present (present_runs (in_present x)) fault

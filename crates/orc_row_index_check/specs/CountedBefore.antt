@@ -5,7 +5,7 @@ use Rattle.orc_row_groups.specs.Bounds.{before_group}
 use Rattle.orc_row_groups.specs.Counts.{AreCounted}
 use Rattle.orc_row_groups.specs.declared.counts.Counts.{Counts}
 
--- of each of the first groups the counts of the cells before it
+-- the counts of the cells before each of the first groups
 pub record AreCountedBefore (counts : List Counts) (cells : List Cell) (bounds : List ℕ) (groups : ℕ) : Type 0 where
   pub counted : length counts ≡ groups
   pub each : (g : ℕ) (before : Counts)

@@ -7,15 +7,14 @@ use Rattle.orc_column_reader.specs.Stripe.{Streams}
 use Rattle.orc_row_groups.specs.Bounds.{before_group}
 use Rattle.orc_row_index.specs.Positions.{AreReadPositions}
 
--- the truth value says whether the positions are those behind the cells before a group
+-- the truth value is true if and only if the positions are right after the cells before the group
 abbrev pub Decides : Shape → Streams → List Cell → List ℕ → ℕ → List ℕ → Bool → Type 0
 Decides s x cells bounds group positions right =
     MatchBool right
     (AreReadPositions s x (before_group cells bounds group) positions)
     (AreReadPositions s x (before_group cells bounds group) positions → ⊥)
 
--- each entry has its truth value: true where its positions are such positions behind the cells before
--- its group, and false where they are none
+-- each entry has a truth value, which is true if and only if its positions are right after the cells before its group
 pub record AreDecided (s : Shape) (x : Streams) (cells : List Cell) (bounds : List ℕ)
     (entries : List RowIndexEntry) (right : List Bool) : Type 0 where
   pub counted : length right ≡ length entries

@@ -1,4 +1,4 @@
-//! The runs of a column's streams, in which its positions are looked up.
+//! Tables of the runs of a column's streams, in which its positions are looked up.
 ghost use Rattle.std.specs.Prelude.{◌≡◌, ◌≢◌, ◌≤◌, ◌⊎◌, ℕ, Option, List, min, length, IfOk, IfErr, MatchBool};
 ghost use Rattle.orc_values.specs.Cells.{Cell};
 ghost use Rattle.orc_values.specs.Views.{shape};
@@ -17,8 +17,8 @@ use orc_row_groups::Counts;
 use orc_row_index::{PlacedStreams, RunBytes};
 use std::alloc::Global;
 
-/// The runs of a column's streams that have positions, and DATA where it has the bytes of texts or byte strings as
-/// they are.
+/// The tables of the streams of runs that have positions, and DATA if it has the plain bytes of texts or byte
+/// strings.
 #[derive(Drop)]
 pub(crate) struct ColumnTable<'a> {
     pub(crate) present: StreamTable,
@@ -26,7 +26,7 @@ pub(crate) struct ColumnTable<'a> {
     pub(crate) own: StreamTable,
 }
 
-/// The table of one of the column's streams, and where it has none, a fault that names the column and the stream.
+/// Builds the table of one of the column's streams. An error names the column and the stream.
 fn stream_table(
     alloc: Global,
     column: usize,
@@ -43,9 +43,12 @@ fn stream_table(
     }
 }
 
-/// The tables of a column's streams, by one walk over each.
+/// Builds the tables of a column's streams, by one walk over each.
 ///
-/// Refusals: `Run` where one of them is no stream of runs, or has more than 2^64 - 1 values; `OutOfMemory`.
+/// # Errors
+///
+/// - `Run`, if one of them is no stream of runs or has more than 2^64 - 1 values.
+/// - `OutOfMemory`.
 pub(crate) fn tables_of<'a>(
     alloc: Global,
     column: usize,
@@ -69,7 +72,7 @@ pub(crate) fn tables_of<'a>(
     })
 }
 
-/// How many bytes come before: they are counted up to the most, and there are no more than the stream has.
+/// Returns how many bytes come before: they are counted up to 2^64 - 1, and are no more than the stream has.
 fn octets_before(bytes: &[u8], counted: usize) -> usize
     ensures { (n : ℕ) → counted ≡ min most n → n ≤ length bytes.now → result ≡ n }
 {
@@ -78,7 +81,7 @@ fn octets_before(bytes: &[u8], counted: usize) -> usize
 }
 
 impl<'a> ColumnTable<'a> {
-    /// Whether these are the positions behind those of PRESENT, where so much comes before.
+    /// Returns whether these are the positions after those of PRESENT, with these counts before.
     fn own_right(&self, positions: &[u64], counts: Counts) -> bool
         ensures { (present : RunStream) (content : Option (List ℕ)) (own : RunStream) (before : List Cell)
             → AreTables present content own self.now
@@ -101,7 +104,7 @@ impl<'a> ColumnTable<'a> {
         }
     }
 
-    /// Whether these are the positions of the column, where so much comes before.
+    /// Returns whether these are the positions of the column, with these counts before.
     pub(crate) fn right(&self, positions: &[u64], counts: Counts) -> bool
         ensures { (present : RunStream) (content : Option (List ℕ)) (own : RunStream) (before : List Cell)
             → AreTables present content own self.now

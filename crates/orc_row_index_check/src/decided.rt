@@ -1,4 +1,4 @@
-//! Whether the entries of a column's row index say where their groups begin.
+//! Whether the entries of a column's row index have right positions.
 ghost use Rattle.std.specs.Prelude.{◌≡◌, ◌≢◌, ℕ, List, length, IfErr, MatchResult};
 ghost use Rattle.orc_values.specs.Cells.{Cell};
 ghost use Rattle.orc_values.specs.Views.{shape};
@@ -19,17 +19,18 @@ use orc_values::Tree;
 use orc_wire::RowIndexEntry;
 use std::alloc::Global;
 
-/// For each entry of a column's row index whether its positions are right, where the counts say what comes before
-/// its group: whether from there a reader goes on with the cells that come behind those (ORC specification, "Row
-/// Group Index"). Any right position counts, and not a writer's alone. Whoever has counted needs no cells for it;
-/// entries without counts have no answer.
+/// Returns for each entry of a column's row index whether its positions are right: whether a reader goes on from
+/// there with the cells after those that `counts` has for the entry's group (ORC specification, "Row Group Index").
+/// Any right position is accepted, not only a writer's. No cells are needed, only their counts; an entry without
+/// counts gets no answer.
 ///
-/// Each stream is gone over once, and a position takes a search by halves, whatever it names.
+/// Each stream is walked once. Looking up a position takes a search by halves, whatever it names.
 ///
-/// Refusals: `OutOfMemory`, and nothing else where the streams spell cells of which these are the
-/// counts; `Run` else, of the column and one of its streams that have positions, with a fault of
-/// its runs: that of the first from the left that is none, `TooMany` of one that goes past 2^64 - 1
-/// values, or `TooFew` at the length of the bytes, where they have fewer.
+/// # Errors
+///
+/// - `OutOfMemory`.
+/// - `Run` with the column and one of its streams that have positions, if that is no stream of runs or has more than
+///   2^64 - 1 values. This can't happen if the streams store cells.
 pub fn positions_right_behind(
     alloc: Global,
     tree: &Tree,
@@ -38,8 +39,9 @@ pub fn positions_right_behind(
     counts: &[Counts],
     entries: &[RowIndexEntry],
 ) -> Result<Vec<bool>, StripeFault>
-    // Where the streams spell cells and the counts are those before each entry's group, each truth
-    // value says exactly whether the entry's positions are right, or memory is refused.
+    // If the streams store cells of the type, and `counts` are those before each entry's group, for bounds of groups
+    // of these cells, then the call returns for each entry whether its positions are right for a reader after the
+    // cells before its group, or it fails with `OutOfMemory`.
     ensures right { (x : Streams) (cells : List Cell) (bounds : List ℕ) → AreStreams x streams.now
         → IsColumn (shape tree.now) x cells
         → AreBounds (length cells) bounds
@@ -47,8 +49,9 @@ pub fn positions_right_behind(
         → MatchResult result
         (λ right. AreDecided (shape tree.now) x cells bounds entries.now right.items)
         (λ fault. fault ≡ OutOfMemory) }
-    // Any other refusal names the column and the stream, with a fault of its runs: of the first
-    // that is none, TooMany past 2^64 - 1 values, or TooFew at the end of fewer.
+    // An error other than `OutOfMemory` is `Run` with `column` and PRESENT or the stream that has the runs of values.
+    // The cause is that of the first run of the stream from the left that is invalid or goes past 2^64 - 1 values
+    // (`TooMany` if it goes past them), or `TooFew` with the length of the stream, if it has fewer values.
     ensures fault { IfErr result (λ fault. fault ≢ OutOfMemory
         → (x : Streams) → AreStreams x streams.now
         → ColumnFails (shape tree.now) x column fault) }

@@ -1,4 +1,4 @@
-//! Positions looked up: which entries of a column's row index say where their groups begin.
+//! Looks up positions: which entries of a column's row index have right positions.
 #![tactic(auto)]
 
 mod column_table;

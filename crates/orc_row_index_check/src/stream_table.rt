@@ -1,4 +1,4 @@
-//! The runs of one stream, in which positions are looked up.
+//! The table of one stream's runs, in which positions are looked up.
 ghost use Rattle.std.specs.Prelude.{◌≡◌, ◌<◌, ◌^◌, ◌⊎◌, ℕ, ℤ, List, length, IfOk, IfErr, MatchBool};
 ghost use Rattle.orc_rle.specs.Stream.{IsStream, StopsWithin};
 ghost use Rattle.orc_rle.specs.declared.fault.RunFault.TheVariants.{OutOfMemory};
@@ -17,10 +17,10 @@ use orc_rle::{Rle, RunFault, Sign, V1, V2};
 use orc_row_index::RunBytes;
 use std::alloc::Global;
 
-/// Where the runs of a stream begin, by what they are of.
+/// Where the runs of a stream begin, by the kind of its values.
 #[derive(Drop)]
 pub(crate) enum StreamTable {
-    /// There is no such stream.
+    /// The column has no such stream.
     Nothing,
     /// Booleans, eight to a byte.
     Bits(RunTable),
@@ -28,7 +28,7 @@ pub(crate) enum StreamTable {
     Runs(RunTable),
 }
 
-/// The places of a stream of integers, whatever the version.
+/// Builds the table of a stream of integers, for either version.
 fn number_places(
     alloc: Global,
     version: Rle,
@@ -47,10 +47,13 @@ fn number_places(
     }
 }
 
-/// The table of a stream, by one walk over it.
+/// Builds the table of a stream, by one walk over it.
 ///
-/// Refusals: the fault of the first run from the left that is none, or `TooMany` where it goes past 2^64 - 1
-/// values; and `OutOfMemory`.
+/// # Errors
+///
+/// - The error of the first invalid run from the left, with that run's offset.
+/// - `TooMany` with a run's offset, if that run goes past 2^64 - 1 values.
+/// - `OutOfMemory`.
 pub(crate) fn table_of(alloc: Global, stream: &RunBytes<'_>) -> Result<StreamTable, RunFault>
     ensures found { IfOk result (IsTable (runs stream.now)) }
     ensures only { IsFew (runs stream.now) → IfErr result (λ fault. fault ≡ OutOfMemory) }
@@ -66,7 +69,7 @@ pub(crate) fn table_of(alloc: Global, stream: &RunBytes<'_>) -> Result<StreamTab
     }
 }
 
-/// Whether these are an offset and how many values are passed from there, and name value `n`.
+/// Returns whether these numbers are an offset and how many values are skipped from there, and name value `n`.
 fn run_right(places: &RunTable, positions: &[u64], n: u64) -> bool
     ensures { MatchBool result
         (RunPosition (Names places.now) n positions.now)
@@ -78,7 +81,8 @@ fn run_right(places: &RunTable, positions: &[u64], n: u64) -> bool
     }
 }
 
-/// The same of boolean `n`: an offset, how many bytes are passed, and how many booleans of the next one.
+/// Returns whether these numbers are an offset, how many bytes are skipped from there and then how many booleans, and
+/// name boolean `n`.
 fn bits_right(places: &RunTable, positions: &[u64], n: u64) -> bool
     ensures { MatchBool result
         (BitsPosition (NamesBit places.now) n positions.now)
@@ -91,7 +95,7 @@ fn bits_right(places: &RunTable, positions: &[u64], n: u64) -> bool
 }
 
 impl StreamTable {
-    /// How many numbers a position of the stream has.
+    /// Returns how many numbers a position of the stream has.
     pub(crate) fn size(&self) -> usize
         ensures { (stream : RunStream) → IsTable stream self.now → result ≡ position_size stream }
     {
@@ -102,7 +106,7 @@ impl StreamTable {
         }
     }
 
-    /// Whether the position names value `n`.
+    /// Returns whether the position names value `n`.
     pub(crate) fn right(&self, positions: &[u64], n: u64) -> bool
         ensures { MatchBool result (TablePosition self.now n positions.now)
             (TablePosition self.now n positions.now → ⊥) }
