@@ -1,4 +1,4 @@
--- Positions in streams that may be broken behind them (ORC specification, "Row Group Index", "Column Encodings").
+-- Positions in streams that may be invalid after them (ORC specification, "Row Group Index", "Column Encodings").
 use Rattle.std.specs.Prelude.{◌≡◌, ℕ, ◌+◌, ◌*◌, ◌≤◌, Bool, true, false, List, [], ◌++◌, length, map}
 use Rattle.orc_rle.specs.ByteRun.{IsByteRun}
 use Rattle.orc_rle.specs.Stream.{IsStream}
@@ -16,8 +16,8 @@ use Rattle.orc_row_index.specs.Positions.{RunPosition, BitsPosition, octets_posi
 use Rattle.orc_row_groups.specs.Counts.{octets}
 use Rattle.orc_row_index.specs.RunStreams.{RunStream, no_stream, bit_runs, byte_runs, number_runs, present_runs, value_runs, value_bytes}
 
--- The position leads to value n, whatever comes then: its offset is that of a run's start, or the stream's length, and
--- the values before it and those that are passed from there make n.
+-- The position leads to value n, whatever comes then: its offset is the start of a run or the stream's end, and n is
+-- the number of values before the offset plus `skip`.
 pub record LeadsTo {A : Type 0} (is_run : List ℕ → List A → Type 0) (bytes : List ℕ) (offset skip n : ℕ) : Type 0 where
   pub front : List ℕ
   pub rest : List ℕ
@@ -27,21 +27,21 @@ pub record LeadsTo {A : Type 0} (is_run : List ℕ → List A → Type 0) (bytes
   pub offset_is : offset ≡ length front
   pub number_is : n ≡ length before + skip
 
--- the same of booleans: eight for each byte that is passed, and 0 to 8 more
+-- the position leads to boolean n: eight for each byte before the offset or skipped, and 0 to 8 more
 pub record LeadsToBit (bytes : List ℕ) (offset skip bits n : ℕ) : Type 0 where
   pub whole : ℕ
   pub byte : LeadsTo IsByteRun bytes offset skip whole
   pub few : bits ≤ 8
   pub number_is : n ≡ 8 * whole + bits
 
--- the position leads to value n of the stream
+-- the positions lead to value n of the stream
 abbrev pub LeadsIn : RunStream → ℕ → List ℕ → Type 0
 LeadsIn no_stream n positions = positions ≡ []
 LeadsIn (bit_runs stream) n positions = BitsPosition (LeadsToBit stream) n positions
 LeadsIn (byte_runs stream) n positions = RunPosition (LeadsTo IsByteRun stream) n positions
 LeadsIn (number_runs version sign stream) n positions = RunPosition (LeadsTo (is_run version sign) stream) n positions
 
--- as many byte strings come first in LENGTH and DATA as there are values, and so many bytes in these
+-- as many byte strings as there are values come first in LENGTH and DATA, with `count` bytes in all
 abbrev pub StringsBegin : Streams → List Cell → ℕ → Type 0
 StringsBegin x vs count =
     (strings : List (List ℕ)) × (rest : List ℕ)
@@ -50,26 +50,26 @@ StringsBegin x vs count =
     × IntegersFirst (lengths_of x) (map size strings)
     × (in_data x ≡ concatenated strings ++ rest)
 
--- strings in a dictionary have no bytes of their own to begin in
+-- texts in a dictionary have no plain bytes
 abbrev pub TextsBegin : Bool → Streams → List Cell → ℕ → Type 0
 TextsBegin true x vs count = Unit {0}
 TextsBegin false x vs count = StringsBegin x vs count
 
--- where the bytes behind so many values begin, for the kinds that have such
+-- the values come first in plain bytes, with `count` bytes in all, if the kind has plain bytes
 abbrev pub ScalarsBegin : Scalar → Streams → List Cell → ℕ → Type 0
 ScalarsBegin kind.Binary x vs count = StringsBegin x vs count
 ScalarsBegin kind.String x vs count = TextsBegin (has_dictionary x) x vs count
 ScalarsBegin _ x vs count = Unit {0}
 
--- of values, the sizes that their column's streams have for them come first there: of byte strings and texts, which are
--- so many bytes together, of lists and of maps
+-- the sizes of the values come first in the column's streams: of byte strings and texts, which have `count` bytes in
+-- all, and of lists and maps
 abbrev pub SizesBegin : Shape → Streams → List Cell → ℕ → Type 0
 SizesBegin (scalar k o) x vs count = ScalarsBegin k x vs count
 SizesBegin (list_of s o) x vs count = IntegersFirst (lengths_of x) (map (λ v. size (parts v)) vs)
 SizesBegin (map_of k v o) x vs count = IntegersFirst (lengths_of x) (map (λ m. size (pairs_in m)) vs)
 SizesBegin (struct_of fs o) x vs count = Unit {0}
 
--- The positions are those of a column behind these cells, whatever its streams have behind them.
+-- The positions are those of a column after these cells, whatever its streams have after them.
 pub record IsBehind (s : Shape) (x : Streams) (before : List Cell) (positions : List ℕ) : Type 0 where
   pub first : List ℕ
   pub last : List ℕ

@@ -1,4 +1,4 @@
--- Readers that stand at their positions (ORC specification, "Row Group Index", "Column Encodings").
+-- Readers that are at their positions (ORC specification, "Row Group Index", "Column Encodings").
 use Rattle.std.specs.Prelude.{◌≡◌, ℕ, zero, suc, ◌-◌, Option, Some, None, List, [], ◌∷◌, length, take, drop, slice_get}
 use Rattle.orc_rle.specs.ByteRun.{IsByteRun}
 use Rattle.orc_rle.specs.Seeking.{Seeks, SeeksBits}
@@ -21,8 +21,8 @@ use Rattle.orc_group_reader.specs.RunsPassed.{IsLastRun}
 use Rattle.orc_group_reader.specs.declared.entered.Entered.{Entered}
 use Rattle.orc_group_reader.specs.declared.entered.Entered.TheVariants as entered
 
--- Integers from a position on: the reader has the stream's bytes, the runs from the offset on are passed as far as the
--- position says, and it knows where the last of them begins.
+-- A reader of integers at a position: it has the stream's bytes, has passed the runs from the offset on that the
+-- position needs, and has the start of the last of these.
 pub record NumbersAt (v : Rle) (s : Sign) (bytes : List ℕ) (offset skip : ℕ) (r : Numbers) : Type 0 where
   pub version_is : r.version ≡ v
   pub sign_is : r.sign ≡ s
@@ -30,20 +30,20 @@ pub record NumbersAt (v : Rle) (s : Sign) (bytes : List ℕ) (offset skip : ℕ)
   pub seeks : Seeks (is_run v s) bytes offset skip skip r.at (drop r.used r.run.values)
   pub last : IsLastRun (is_run v s) bytes offset r.start r.at
 
--- the same of bytes
+-- a reader of bytes in runs at a position
 pub record BytesAt (bytes : List ℕ) (offset skip : ℕ) (r : RunLengthBytes) : Type 0 where
   pub bytes_are : r.bytes.now ≡ bytes
   pub seeks : Seeks IsByteRun bytes offset skip skip r.at (drop r.used r.run.values)
   pub last : IsLastRun IsByteRun bytes offset r.start r.at
 
--- where digits are passed, the first byte of those that are left is held, without these digits
+-- if digits are skipped, the reader holds the first of the bytes that are left, without these digits
 abbrev pub HoldsFirst : List ℕ → ℕ → Bits → Type 0
 HoldsFirst left zero r = (r.left ≡ 0) × (drop r.bytes.used r.bytes.run.values ≡ left)
 HoldsFirst [] (suc bits) r = ⊥
 HoldsFirst (byte ∷ more) (suc bits) r =
     (r.held ≡ byte) × (r.left ≡ 8 - suc bits) × (drop r.bytes.used r.bytes.run.values ≡ more)
 
--- the same of booleans
+-- a reader of booleans at a position
 pub record BitsAt (bytes : List ℕ) (offset skip bits : ℕ) (r : Bits) : Type 0 where
   pub bytes_are : r.bytes.bytes.now ≡ bytes
   pub left : List ℕ
@@ -62,14 +62,14 @@ StreamAt (number_runs v s b) positions (entered.Numbers r) =
     (offset : ℕ) × (skip : ℕ) × (positions ≡ offset ∷ skip ∷ []) × NumbersAt v s b offset skip r
 StreamAt _ positions _ = ⊥
 
--- PRESENT from its positions on; without bytes there are none
+-- PRESENT from its positions on; without bytes it has none
 abbrev pub MarksAt : List ℕ → List ℕ → Option Bits → Type 0
 MarksAt [] positions None = positions ≡ []
 MarksAt [] positions (Some bits) = ⊥
 MarksAt (b ∷ bs) positions None = ⊥
 MarksAt (b ∷ bs) positions (Some bits) = StreamAt (bit_runs (b ∷ bs)) positions (entered.Bits bits)
 
--- what a column's values are read from, from the positions of its streams beside PRESENT on; its dictionary whole
+-- the source of a column's values, from the positions of its streams besides PRESENT on; its dictionary is read whole
 pub record SourceAt (s : Shape) (x : Streams) (c : ℕ) (positions : List ℕ) (source : ValueSource) : Type 0 where
   pub own : Entered
   pub rest : List ℕ
@@ -81,13 +81,13 @@ pub record SourceAt (s : Shape) (x : Streams) (c : ℕ) (positions : List ℕ) (
   pub room : source.room ≡ most_cells
   pub column : source.column ≡ c
 
--- a column's own reader, from its positions on, which are as many as its streams have
+-- the reader of a column alone, from its positions on, which are as many as its streams have
 pub record ColumnAt (s : Shape) (x : Streams) (c : ℕ) (positions : List ℕ) (reader : ColumnReader) : Type 0 where
   pub counted : length positions ≡ positions_size s x
   pub marks : MarksAt (in_present x) (take (present_size x) positions) reader.present
   pub source : SourceAt s x c (drop (present_size x) positions) reader.source
 
--- the readers of all columns, each from the positions of its entry on; each column has one
+-- the readers of all columns, one for each, from the positions of its entry on
 pub record ReadersAt (s : Shape) (y : ℕ → Streams) (entries : List RowIndexEntry)
     (readers : List ColumnReader) : Type 0 where
   pub listed : length entries ≡ width s

@@ -1,4 +1,4 @@
--- Why a column isn't entered at its positions (ORC specification, "Row Group Index", "Column Encodings").
+-- Why a column can't be read from its positions on (ORC specification, "Row Group Index", "Column Encodings").
 use Rattle.std.specs.Prelude.{◌≡◌, ◌≢◌, ℕ, ◌+◌, ◌<◌, Option, Some, None, List, [], ◌∷◌, length, take, drop, ◌⊎◌}
 use Rattle.orc_rle.specs.ByteRun.{IsByteRun, NoByteRun}
 use Rattle.orc_rle.specs.Seeking.{SeekFails, BitSeekFails}
@@ -17,8 +17,8 @@ use Rattle.orc_directory.specs.declared.fault.StripeFault.TheVariants as fault
 use Rattle.orc_row_index.specs.Positions.{octets_size, position_size}
 use Rattle.orc_row_index.specs.RunStreams.{RunStream, no_stream, bit_runs, byte_runs, number_runs, present_runs, value_runs, value_bytes, kind_of_values}
 
--- the numbers are no position of the stream, or bytes that are no run are met on the way; where there are not
--- as many numbers as a position has, nothing is said
+-- the numbers are no position of the stream, or an invalid run is met on the way; if there aren't as many numbers as
+-- a position has, every cause counts
 abbrev pub EnteredStreamFails : RunStream → List ℕ → RunFault → Type 0
 EnteredStreamFails no_stream positions cause = positions ≡ [] → ⊥
 EnteredStreamFails (bit_runs b) positions cause =
@@ -28,12 +28,12 @@ EnteredStreamFails (byte_runs b) positions cause =
 EnteredStreamFails (number_runs v s b) positions cause =
     (offset skip : ℕ) → positions ≡ offset ∷ skip ∷ [] → SeekFails (is_run v s) (no_run v s) b offset skip cause
 
--- bytes as they are end before the position
+-- the plain bytes end before the position, if there is a position
 abbrev pub EndsBefore : Option (List ℕ) → List ℕ → Type 0
 EndsBefore None positions = ⊥
 EndsBefore (Some bytes) positions = (offset : ℕ) (last : List ℕ) → positions ≡ offset ∷ last → length bytes < offset
 
--- what a stream's fault is for its column: that it has no such position, or that of the run
+-- the error of a column for a cause in its stream: that the stream has no such position, or the error of the run
 abbrev pub IsEnteringFault : ℕ → StreamKind → RunFault → StripeFault → Type 0
 IsEnteringFault c k (run.BadPosition place) f = f ≡ fault.BadPosition (spot.Stream c k)
 IsEnteringFault c k run.OutOfMemory f = f ≡ fault.OutOfMemory
@@ -47,11 +47,11 @@ IsEnteringFault c k (run.PatchRange place) f = f ≡ fault.Run c k (run.PatchRan
 IsEnteringFault c k (run.TooFew place) f = f ≡ fault.Run c k (run.TooFew place)
 IsEnteringFault c k (run.TooMany place) f = f ≡ fault.Run c k (run.TooMany place)
 
--- a stream of a column isn't entered
+-- a stream of a column can't be read from its positions on
 abbrev pub FailsToEnter : ℕ → StreamKind → RunStream → List ℕ → StripeFault → Type 0
 FailsToEnter c k stream positions f = (cause : RunFault) × EnteredStreamFails stream positions cause × IsEnteringFault c k cause f
 
--- one of the streams beside PRESENT isn't, or the dictionary isn't read
+-- one of the streams besides PRESENT can't be read from its positions on, or the dictionary is invalid
 abbrev pub OwnRefused : Shape → Streams → ℕ → List ℕ → StripeFault → Type 0
 OwnRefused s x c positions f =
     ((f ≡ fault.BadPosition (spot.Stream c stream.Data)) × EndsBefore (value_bytes s x) positions)
@@ -59,15 +59,16 @@ OwnRefused s x c positions f =
     (drop (octets_size (value_bytes s x)) positions) f
     ⊎ DictionaryFails s x c f)
 
--- how many positions PRESENT has
+-- how many numbers the position in PRESENT has
 abbrev pub present_size : Streams → ℕ
 present_size x = position_size (present_runs (in_present x))
 
--- how many positions a column has
+-- how many numbers the positions of a column have
 abbrev pub positions_size : Shape → Streams → ℕ
 positions_size s x = present_size x + (octets_size (value_bytes s x) + position_size (value_runs s x))
 
--- there are not as many as the column has, or as many, and one of its streams isn't entered
+-- there aren't as many numbers as the column's positions have; or there are, and one of its streams can't be read
+-- from there on
 abbrev pub ColumnRefused : Shape → Streams → ℕ → List ℕ → StripeFault → Type 0
 ColumnRefused s x c positions f =
     ((f ≡ fault.BadPosition (spot.Column c)) × (length positions ≢ positions_size s x))

@@ -1,8 +1,8 @@
--- The runs that a reader has behind it which was entered at an offset (ORC specification, "Row Group Index").
+-- The runs that a reader has passed which began at an offset (ORC specification, "Row Group Index").
 use Rattle.std.specs.Prelude.{◌≡◌, ℕ, ◌+◌, List, ◌++◌, length, drop, ◌⊎◌}
 use Rattle.orc_rle.specs.Stream.{IsStream}
 
--- runs stand from one place to another
+-- there are runs from one place to another
 pub record AreRunsTo {A : Type 0} (is_run : List ℕ → List A → Type 0) (bytes : List ℕ) (from to : ℕ) : Type 0 where
   pub front : List ℕ
   pub rest : List ℕ
@@ -11,7 +11,7 @@ pub record AreRunsTo {A : Type 0} (is_run : List ℕ → List A → Type 0) (byt
   pub stream : IsStream is_run front values
   pub to_is : to ≡ from + length front
 
--- a run begins at the start and ends at the end, behind others that begin at the offset
+-- a run begins at the start and ends at the end, after others from the offset on
 pub record BeginsLast {A : Type 0} (is_run : List ℕ → List A → Type 0) (bytes : List ℕ)
     (offset start end : ℕ) : Type 0 where
   pub front : List ℕ
@@ -25,7 +25,7 @@ pub record BeginsLast {A : Type 0} (is_run : List ℕ → List A → Type 0) (by
   pub start_is : start ≡ offset + length front
   pub end_is : end ≡ start + length text
 
--- the last run from the offset to the end begins at the start; where there is none, all three are one place
+-- the last run from the offset to the end begins at the start; if there is none, all three are the same place
 abbrev pub IsLastRun : {A : Type 0} → (List ℕ → List A → Type 0) → List ℕ → ℕ → ℕ → ℕ → Type 0
 IsLastRun is_run bytes offset start end =
     ((start ≡ offset) × (end ≡ offset)) ⊎ BeginsLast is_run bytes offset start end

@@ -1,4 +1,4 @@
--- A column's streams that are entered at their positions (ORC specification, "Row Group Index").
+-- Streams of a column that are read from their positions on (ORC specification, "Row Group Index").
 use Rattle.std.specs.Prelude.{◌≡◌, ℕ, ◌≤◌, ℤ, Bool, List, length, drop, get_or}
 use Rattle.orc_rle.specs.BitStream.{IsBitStream}
 use Rattle.orc_rle.specs.ByteRun.{IsByteRun}
@@ -20,7 +20,7 @@ RunsAgree offset (byte_runs a) (byte_runs b) = AgreeFrom offset a b
 RunsAgree offset (number_runs w t a) (number_runs v s b) = (w ≡ v) × (t ≡ s) × AgreeFrom offset a b
 RunsAgree offset _ _ = ⊥
 
--- the values of a stream from number n on are left
+-- the values of a stream from value n on are left
 abbrev pub LeftFrom : RunStream → ℕ → Entered → Type 0
 LeftFrom no_stream n entered.Nothing = Unit {0}
 LeftFrom (bit_runs b) n (entered.Bits r) =
@@ -31,21 +31,22 @@ LeftFrom (number_runs v s b) n (entered.Numbers r) =
     (all : List ℤ) → IsStream (is_run v s) b all → NumbersLeft r (drop n all)
 LeftFrom _ n _ = ⊥
 
--- the bytes are a stream that has n values or more
+-- the bytes are a stream, and one of booleans has at least n
 abbrev pub HasSome : RunStream → ℕ → Type 0
 HasSome no_stream n = Unit {0}
 HasSome (bit_runs b) n = (all : List Bool) × IsBitStream b all × (n ≤ length all)
 HasSome (byte_runs b) n = (all : List ℕ) × IsStream IsByteRun b all
 HasSome (number_runs v s b) n = (all : List ℤ) × IsStream (is_run v s) b all
 
--- Whatever stream agrees from the positions' offset on, and has value n there: its values from n on are left.
+-- For every stream that agrees from the position's offset on and in which the position names value n, its values from
+-- n on are left.
 abbrev pub Enters : RunStream → List ℕ → Entered → Type 0
 Enters stream positions e =
     (other : RunStream) (n : ℕ) → IsPosition reader other n positions
     → RunsAgree (get_or positions 0 0) stream other
     → LeftFrom other n e
 
--- there is no such stream
+-- no stream that agrees from the position's offset on has the value which the position names
 abbrev pub NeverEnters : RunStream → List ℕ → Type 0
 NeverEnters stream positions =
     (other : RunStream) (n : ℕ) → IsPosition reader other n positions

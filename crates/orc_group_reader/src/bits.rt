@@ -1,4 +1,4 @@
-//! Booleans from a position on.
+//! Streams of booleans from a position on.
 ghost use Rattle.std.specs.Prelude.{◌≡◌, ◌-◌, ◌≤◌, ◌<◌, ◌⊎◌, [], length, drop, slice_get, Some, IfOk, IfErr, IfNone, IfSome, MatchResult};
 ghost use Rattle.orc_rle.specs.Seeking.{SeeksBits, BitSeekFails};
 ghost use Rattle.orc_column_reader.specs.Bits.{BitsLeft};
@@ -9,7 +9,7 @@ use crate::run_starts::last_byte_start;
 use orc_column_reader::{Bits, RunLengthBytes};
 use orc_rle::{BitPos, BitRuns, RunFault, RunU8};
 
-/// The byte that comes next.
+/// Returns the byte that comes next.
 fn next_byte(run: &RunU8) -> Option<u8>
     ensures there { IfSome result (λ byte. slice_get run.now.values 0 ≡ Some byte) }
     ensures none { IfNone result (run.now.values ≡ []) }
@@ -20,7 +20,7 @@ fn next_byte(run: &RunU8) -> Option<u8>
     }
 }
 
-/// The byte of which digits are passed, where some are.
+/// Returns the byte of which digits are skipped, if any are.
 fn held_byte(run: &RunU8, passed: usize) -> Option<u8>
     ensures there { IfSome result (λ byte. (0 < passed) × (slice_get run.now.values 0 ≡ Some byte)) }
     ensures none { IfNone result ((passed ≡ 0) ⊎ (run.now.values ≡ [])) }
@@ -31,25 +31,32 @@ fn held_byte(run: &RunU8, passed: usize) -> Option<u8>
     next_byte(run)
 }
 
-/// A stream of booleans from a position on: the runs of bytes from its offset to the value are decoded, and
-/// nothing before them.
+/// Returns a reader of a stream of booleans from a position on (ORC specification, "Row Group Index"). Only the runs
+/// of bytes from the position's offset to the value are decoded. If the bytes from the offset on are those of a valid
+/// stream in which the position names a boolean, the call never fails.
 ///
-/// Refusals: those of `BitRuns::seek`. Bytes that are a right stream from the offset on, in which the position
-/// names a boolean, are never refused.
+/// # Errors
+///
+/// Those of `BitRuns::seek`.
 pub fn bits_at(bytes: &[u8], pos: BitPos) -> Result<Bits<'_>, RunFault>
-    // Where a stream of this length has the same bytes from the offset on, and the position is
-    // right in it, its booleans from there on come, whatever stands before the offset.
+    // If a stream of booleans has the length of `bytes` and the same bytes from `pos.offset` on, and `pos` names
+    // boolean n of it, then the call succeeds, and what the returned reader has left are that stream's booleans from
+    // n on, whatever `bytes` have before the offset.
     ensures enters { MatchResult result (λ found. EntersBits bytes.now pos.offset pos.skip pos.bits (BitsLeft found))
         (λ _. EntersBits bytes.now pos.offset pos.skip pos.bits (λ _. ⊥)) }
-    // The reader stands behind the runs of bytes that the position passes, with what is left of the
-    // last one.
+    // The returned reader is at the end of the last run that is needed to skip `pos.skip` bytes from `pos.offset` on
+    // and, if `pos.bits` is above 0, to reach the next byte. It has that run's bytes after the skipped ones. If
+    // `pos.skip` and `pos.bits` are 0, no run is needed: the reader is at `pos.offset` and has no run. `pos.bits` is
+    // at most 8.
     ensures found { IfOk result
         (λ found. SeeksBits bytes.now pos.offset pos.skip pos.bits found.bytes.at found.bytes.run.values) }
-    // It has the stream's bytes, holds what is left of a byte of which digits are passed, and knows
-    // where the last run that it decoded begins.
+    // The returned reader has `bytes`, holds the byte of which `pos.bits` bits are skipped, without these bits, if
+    // there are any, and has the start of the last run that it decoded.
     ensures at { IfOk result (BitsAt bytes.now pos.offset pos.skip pos.bits) }
-    // A refusal is BadPosition at the offset, where this is past the end, too few bytes follow or
-    // more than eight digits are passed, or the fault of bytes that are no run, at their place.
+    // An error is `BadPosition` with `pos.offset`, if `pos.bits` is above 8, `pos.offset` is past the end of `bytes`,
+    // or the runs from there to the end have fewer bytes than needed, which are `pos.skip` and one more if `pos.bits`
+    // is above 0. Or `pos.bits` is at most 8, and the error is `Short` with the offset of a run inside which `bytes`
+    // end and which is met before the needed bytes are there.
     ensures fault { IfErr result (BitSeekFails bytes.now pos.offset pos.skip pos.bits) }
 {
     let mut run = RunU8::new();
@@ -58,7 +65,7 @@ pub fn bits_at(bytes: &[u8], pos: BitPos) -> Result<Bits<'_>, RunFault>
         Err(fault) => return Err(fault),
     };
     let start = last_byte_start(bytes, pos.offset, at);
-    // the byte of which digits are passed is held, without these digits
+    // the byte of which digits are skipped is held, without these digits
     match held_byte(&run, pos.bits) {
         Some(byte) => {
             let after = RunLengthBytes::behind(bytes, at, start, run, 1);

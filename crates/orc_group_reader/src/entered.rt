@@ -1,4 +1,4 @@
-//! A column's streams of runs that are entered, whatever their runs are of.
+//! A column's streams of runs from a position on, for every kind of run.
 ghost use Rattle.std.specs.Prelude.{◌≡◌, ◌∷◌, ℕ, [], IfSome, IfNone, IfOk, IfErr, MatchResult};
 ghost use Rattle.orc_row_index.specs.RunStreams.{bit_runs, byte_runs, number_runs};
 ghost use Rattle.orc_row_index.specs.Walking.{runs};
@@ -17,7 +17,7 @@ use orc_row_index::RunBytes;
 /// A stream of runs from a position on.
 #[derive(Drop)]
 pub(crate) enum Entered<'a> {
-    /// There is no such stream.
+    /// The column has no such stream.
     Nothing,
     /// Booleans.
     Bits(Bits<'a>),
@@ -27,7 +27,7 @@ pub(crate) enum Entered<'a> {
     Numbers(Numbers<'a>),
 }
 
-/// A position of bytes or integers, where the numbers are one.
+/// Returns a position in bytes or integers, if the numbers are one.
 fn pos_of(positions: &[u64]) -> Option<Pos>
     ensures found { IfSome result (λ pos. positions.now ≡ pos.offset ∷ pos.skip ∷ []) }
     ensures none { IfNone result ((offset skip : ℕ) → positions.now ≡ offset ∷ skip ∷ [] → ⊥) }
@@ -41,7 +41,7 @@ fn pos_of(positions: &[u64]) -> Option<Pos>
     }
 }
 
-/// A position of booleans, where the numbers are one.
+/// Returns a position in booleans, if the numbers are one.
 fn bit_pos_of(positions: &[u64]) -> Option<BitPos>
     ensures found { IfSome result (λ pos. positions.now ≡ pos.offset ∷ pos.skip ∷ pos.bits ∷ []) }
     ensures none { IfNone result ((offset skip bits : ℕ) → positions.now ≡ offset ∷ skip ∷ bits ∷ [] → ⊥) }
@@ -56,7 +56,7 @@ fn bit_pos_of(positions: &[u64]) -> Option<BitPos>
     }
 }
 
-/// Integers from a position on, where the numbers are one.
+/// Returns a reader of integers from a position on, if the numbers are one.
 fn numbers_from<'a>(
     version: Rle,
     sign: Sign,
@@ -78,7 +78,7 @@ fn numbers_from<'a>(
     }
 }
 
-/// Bytes from a position on, where the numbers are one.
+/// Returns a reader of bytes from a position on, if the numbers are one.
 fn bytes_from<'a>(bytes: &'a [u8], positions: &[u64]) -> Result<Entered<'a>, RunFault>
     ensures enters { MatchResult result
         (Enters (byte_runs bytes.now) positions.now)
@@ -95,7 +95,7 @@ fn bytes_from<'a>(bytes: &'a [u8], positions: &[u64]) -> Result<Entered<'a>, Run
     }
 }
 
-/// Booleans from a position on, where the numbers are one.
+/// Returns a reader of booleans from a position on, if the numbers are one.
 pub(crate) fn bits_from<'a>(bytes: &'a [u8], positions: &[u64]) -> Result<Bits<'a>, RunFault>
     ensures enters { MatchResult result
         (λ bits. Enters (bit_runs bytes.now) positions.now (entered.Bits bits))
@@ -112,7 +112,7 @@ pub(crate) fn bits_from<'a>(bytes: &'a [u8], positions: &[u64]) -> Result<Bits<'
     }
 }
 
-/// A stream of runs from its positions on.
+/// Returns a reader of a stream of runs from its positions on.
 pub(crate) fn enter<'a>(stream: &RunBytes<'a>, positions: &[u64]) -> Result<Entered<'a>, RunFault>
     ensures enters { MatchResult result
         (Enters (runs stream.now) positions.now)

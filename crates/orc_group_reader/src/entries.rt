@@ -12,7 +12,7 @@ use orc_directory::StripeFault;
 use orc_values::{Scalar, Tree};
 use std::alloc::Global;
 
-/// Those of a column of texts, where it has a dictionary.
+/// Reads the dictionary of a column of texts, if it has one.
 fn dictionary_of<'a>(
     alloc: Global,
     column: usize,
@@ -43,7 +43,7 @@ fn dictionary_of<'a>(
     }
 }
 
-/// Those of a column, where it has a dictionary, which has no positions and is read whole.
+/// Reads the dictionary of a column, if it has one. A dictionary has no positions and is read whole.
 pub(crate) fn column_entries<'a>(
     alloc: Global,
     tree: &Tree,

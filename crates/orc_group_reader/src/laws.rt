@@ -1,4 +1,4 @@
-//! Laws of readers that stand at positions. The function does nothing: its contract is what it is for.
+//! Laws of readers at positions. The function does nothing: its contract is the statement.
 ghost use Rattle.std.specs.Prelude.{◌≡◌, ◌+◌, ℕ, Bool, Some, List, length, slice_get};
 ghost use Rattle.orc_values.specs.Cells.{Cell};
 ghost use Rattle.orc_values.specs.Columns.{cells};
@@ -14,11 +14,12 @@ ghost use Rattle.orc_directory.specs.declared.fault.StripeFault.{StripeFault as 
 ghost use Rattle.orc_group_reader.specs.Behind.{IsBehind};
 ghost use Rattle.orc_group_reader.specs.ReadersAt.{ReadersAt};
 
-/// What readers at positions meet, which are those behind some rows, is a fault of the whole columns. What they have still
-/// to give is said by the positions alone.
+/// States the laws of readers at positions after some rows. Each error that they meet is one of the whole columns.
+/// What they still have to give depends on the positions alone.
 pub fn entering_laws()
-    // Where rows fit and readers stand at positions behind them, each fault that these meet is one
-    // of the whole columns, whatever the streams have behind the rows.
+    // If rows fit the schema, the positions of each column's entry lead to the place after the column's cells in
+    // these rows, and readers are at these positions, then each error that the readers meet with n cells to give is
+    // one of the whole columns with n cells more than these rows, whatever the streams have after the rows.
     ensures faults { (s : Shape) (x : ℕ → Streams) (before : List Cell) (entries : List IndexEntry) (readers : List Reader)
         (all : Bool) (n : ℕ) (f : Fault)
         → RowsFit s before
@@ -26,7 +27,8 @@ pub fn entering_laws()
         → IsBehind (shape_at s c) (x c) (cells s c before) entry.positions)
         → ReadersAt s x entries readers → CellsMeet s readers all n f
         → FaultDown s x 0 all (length before + n) f }
-    // What one of two that stand at the same positions has still to give, the other has.
+    // If two lists of readers are at the same positions of the same columns, then each list of rows that the first
+    // readers still have to give is one that the second ones still have to give.
     ensures same { (s : Shape) (x : ℕ → Streams) (entries : List IndexEntry) (a b : List Reader) (rows : List Cell)
         → ReadersAt s x entries a → ReadersAt s x entries b
         → CellsLeft s a rows → CellsLeft s b rows }

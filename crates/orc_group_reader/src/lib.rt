@@ -1,4 +1,5 @@
-//! Streams entered in their middle: readers from a position on, to which what stands before its offset means nothing.
+//! Readers of columns from positions in the middle of their streams; what a stream has before its position's offset
+//! doesn't matter.
 #![tactic(auto)]
 
 mod bits;

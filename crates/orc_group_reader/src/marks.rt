@@ -10,7 +10,7 @@ use crate::entered::bits_from;
 use orc_column_reader::Bits;
 use orc_rle::RunFault;
 
-/// Which cells are not null, from the positions of PRESENT on, which has none where it has no bytes.
+/// Returns a reader of PRESENT from its positions on. It has none if it has no bytes.
 pub(crate) fn marks_from<'a>(
     present: &'a [u8],
     positions: &[u64],

@@ -1,18 +1,18 @@
-//! Bytes as they are, from their position on.
+//! Plain bytes from their position on.
 ghost use Rattle.std.specs.Prelude.{IfSome, IfNone};
 ghost use Rattle.orc_row_index.specs.Walking.{lent_bytes};
 ghost use Rattle.orc_group_reader.specs.Columns.{CutsOctets};
 ghost use Rattle.orc_group_reader.specs.Refusals.{EndsBefore};
 
-/// Bytes from their position on, and the positions that come behind it.
+/// Plain bytes from their position on, and the positions that come after it.
 #[derive(Clone, Copy)]
 pub(crate) struct Cut<'a, 'p> {
     pub(crate) rest: &'a [u8],
     pub(crate) positions: &'p [u64],
 }
 
-/// Passes bytes as they are, where a column has them: their position is how many come before. Nothing where
-/// there is none, or it lies past the end.
+/// Skips plain bytes, if a column has them: their position is how many bytes come before. Returns none if there is no
+/// position or it is past the end.
 pub(crate) fn octets_from<'a, 'p>(
     content: Option<&'a [u8]>,
     positions: &'p [u64],

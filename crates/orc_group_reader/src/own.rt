@@ -1,4 +1,4 @@
-//! What a column's values are read from, from its positions on.
+//! The source of a column's values from its positions on.
 ghost use Rattle.std.specs.Prelude.{◌≡◌, ◌≢◌, ◌++◌, ℕ, List, IfOk, IfErr, MatchResult};
 ghost use Rattle.orc_values.specs.Cells.{Cell, values};
 ghost use Rattle.orc_values.specs.Views.{shape};
@@ -23,10 +23,14 @@ use orc_row_index::{placed_streams, values_kind};
 use orc_values::Tree;
 use std::alloc::Global;
 
-/// The source of a column's values, from the positions of its streams beside PRESENT on.
+/// Returns the source of a column's values, from the positions of its streams besides PRESENT on.
 ///
-/// Refusals: `BadPosition` of the stream that a position lies outside of; `Run` where no run is decoded there;
-/// those of a dictionary; `OutOfMemory`, and nothing else where the positions are right.
+/// # Errors
+///
+/// - `BadPosition` with a stream in which its position doesn't lie.
+/// - `Run`, if there is an invalid run at a position.
+/// - The errors of a dictionary.
+/// - `OutOfMemory`, which is the only error if the positions are right.
 pub(crate) fn own_from<'a>(
     alloc: Global,
     tree: &Tree,

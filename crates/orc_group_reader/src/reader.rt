@@ -1,4 +1,4 @@
-//! A column's reader, from its positions on.
+//! The reader of a column from its positions on.
 ghost use Rattle.std.specs.Prelude.{◌≡◌, ◌≢◌, ◌++◌, ◌+◌, List, length, IfOk, IfErr, MatchResult};
 ghost use Rattle.orc_values.specs.Cells.{Cell};
 ghost use Rattle.orc_values.specs.Views.{shape};
@@ -20,7 +20,7 @@ use orc_row_index::{PlacedStreams, placed_streams};
 use orc_values::Tree;
 use std::alloc::Global;
 
-/// How many numbers the positions of bytes as they are have, where a column has such.
+/// Returns how many numbers a position in plain bytes has, if a column has them.
 fn octets_size(content: Option<&[u8]>) -> usize
     ensures { result ≡ spec.octets_size (lent_bytes content.entry) }
 {
@@ -30,7 +30,7 @@ fn octets_size(content: Option<&[u8]>) -> usize
     }
 }
 
-/// How many numbers the positions of a column have.
+/// Returns how many numbers the positions of a column have.
 fn positions_size(placed: &PlacedStreams<'_>) -> usize
     ensures { result ≡ spec.position_size (runs placed.now.present)
         + (spec.octets_size (lent_bytes placed.now.content) + spec.position_size (runs placed.now.own)) }
@@ -38,11 +38,15 @@ fn positions_size(placed: &PlacedStreams<'_>) -> usize
     placed.present.position_size() + (octets_size(placed.content) + placed.own.position_size())
 }
 
-/// The reader of a column by itself, from its positions on.
+/// Returns the reader of a column, without those below it, from its positions on.
 ///
-/// Refusals: `BadPosition`, of the column where the positions are not as many as its streams have, and of the
-/// stream that one lies outside of; `Run` where no run is decoded there; those of a dictionary; `OutOfMemory`,
-/// and nothing else where the positions are right.
+/// # Errors
+///
+/// - `BadPosition` with the column, if there are more or fewer positions than its streams have.
+/// - `BadPosition` with a stream in which its position doesn't lie.
+/// - `Run`, if there is an invalid run at a position.
+/// - The errors of a dictionary.
+/// - `OutOfMemory`, which is the only error if the positions are right.
 pub(crate) fn reader_at<'a>(
     alloc: Global,
     tree: &Tree,

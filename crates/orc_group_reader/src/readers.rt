@@ -17,12 +17,16 @@ use orc_values::{Tree, tree_at, width_of};
 use orc_wire::{RowIndexEntry, StripeFooter};
 use std::alloc::Global;
 
-/// The readers of all columns of a stripe, each from the positions of its entry on (ORC specification, "Row Group
-/// Index"). What stands in a stream before the offset that its position has is not read.
+/// Returns the readers of all columns of a stripe, each from the positions of its entry on (ORC specification, "Row
+/// Group Index"). What a stream has before its position's offset is not read. Dictionaries are read whole.
 ///
-/// Refusals: `BadPosition`, of a column whose entry has another number of positions than its streams have, and of a
-/// stream that a position lies outside of; `Run` where no run is decoded there; those of a dictionary, which is read
-/// whole; `OutOfMemory`, and nothing else where the positions are right.
+/// # Errors
+///
+/// - `BadPosition` with a column whose entry has more or fewer positions than its streams have.
+/// - `BadPosition` with a stream in which its position doesn't lie.
+/// - `Run`, if there is an invalid run at a position.
+/// - The errors of a dictionary.
+/// - `OutOfMemory`, which is the only error if the positions are right.
 pub fn readers_at<'a>(
     alloc: Global,
     tree: &Tree,
@@ -34,21 +38,24 @@ pub fn readers_at<'a>(
     requires located { AreLocated (length footer.now.columns) footer.now.streams
         located.now.bytes.now located.now.slices.items }
     requires entries { length entries.now ≡ width (shape tree.now) }
-    // What is answered is a reader for each column.
+    // The call returns one reader for each column.
     ensures counted { IfOk result (λ readers. length readers.items ≡ width (shape tree.now)) }
-    // Where positions are right in columns of rows that have the same encodings and dictionaries,
-    // and the same bytes from there on, the readers give the rows behind, or memory is refused.
+    // If there are columns that store rows, the entries' positions are right in these columns after the first of the
+    // rows, and the columns in `footer` and `located` have the same encodings and dictionaries and the same bytes
+    // from the positions' offsets on, then the returned readers have the other rows left, or the call fails with
+    // `OutOfMemory`.
     ensures left { (x : ℕ → Streams) (before after : List Cell)
         → RowsTurn (shape tree.now) x (columns_of footer.now located.now.bytes.now) before after entries.now
         → MatchResult result
         (λ readers. CellsLeft (shape tree.now) readers.items after)
         (λ fault. fault ≡ OutOfMemory) }
-    // Readers are there only where each entry has as many positions as its column's streams, and
-    // each lies in its stream; each reader stands at those of its entry.
+    // If the call succeeds, then each entry has as many positions as its column's streams have, each position lies in
+    // its stream, and each returned reader is at the positions of its entry.
     ensures at { IfOk result (λ readers.
         ReadersAt (shape tree.now) (columns_of footer.now located.now.bytes.now) entries.now readers.items) }
-    // Any other refusal is of a column at its own entry: BadPosition for the number of positions or
-    // one outside of its stream, the fault of a run that is met there, or one of a dictionary.
+    // An error other than `OutOfMemory` is one of a column at its entry: `BadPosition` with the column, if the entry
+    // has more or fewer positions than the column's streams have; else `BadPosition` with a stream in which its
+    // position doesn't lie, the error of an invalid run that is met from there on, or the error of the dictionary.
     ensures fault { IfErr result (λ cause. cause ≢ OutOfMemory
         → EntriesRefused (shape tree.now) (columns_of footer.now located.now.bytes.now) entries.now cause) }
 {

@@ -6,7 +6,7 @@ ghost use Rattle.orc_group_reader.specs.RunsPassed.{AreRunsTo, IsLastRun};
 
 use orc_rle::{ByteRuns, Rle, RunCodec, Sign, V1, V2};
 
-/// How many bytes the run in front has, whatever the version.
+/// Returns how many bytes the run at the start has, for either version.
 fn run_len(version: Rle, bytes: &[u8], sign: Sign) -> usize
     ensures { (front rest : List ℕ) (v : List ℤ) → is_run version sign front v → bytes.now ≡ front ++ rest
         → result ≡ length front }
@@ -17,7 +17,7 @@ fn run_len(version: Rle, bytes: &[u8], sign: Sign) -> usize
     }
 }
 
-/// Where the last of the runs begins that stand from an offset to an end; the offset, where there are none. Each is
+/// Returns where the last of the runs from an offset to an end begins, or the offset if there is none. Each run is
 /// passed by its size, and none is decoded.
 pub(crate) fn last_start(version: Rle, sign: Sign, bytes: &[u8], offset: usize, end: usize) -> usize
     requires { AreRunsTo (is_run version sign) bytes.now offset end }
@@ -33,7 +33,7 @@ pub(crate) fn last_start(version: Rle, sign: Sign, bytes: &[u8], offset: usize, 
     start
 }
 
-/// The same of runs of bytes.
+/// Returns where the last of the byte runs from an offset to an end begins, or the offset if there is none.
 pub(crate) fn last_byte_start(bytes: &[u8], offset: usize, end: usize) -> usize
     requires { AreRunsTo IsByteRun bytes.now offset end }
     ensures { IsLastRun IsByteRun bytes.now offset result end }

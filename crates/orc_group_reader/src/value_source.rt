@@ -1,4 +1,4 @@
-//! What a column's values are read from, made of streams that were entered.
+//! The source of a column's values, made from readers at positions.
 ghost use Rattle.std.specs.Prelude.{◌≡◌};
 ghost use Rattle.orc_values.specs.Limits.{most_cells};
 ghost use Rattle.orc_group_reader.specs.Columns.{IsSource};
@@ -6,7 +6,7 @@ ghost use Rattle.orc_group_reader.specs.Columns.{IsSource};
 use crate::entered::Entered;
 use orc_column_reader::{Entry, ValueSource};
 
-/// The source of a column whose streams were entered.
+/// Returns the source of a column whose streams are read from positions on.
 pub(crate) fn source_from<'a>(
     column: usize,
     own: Entered<'a>,
