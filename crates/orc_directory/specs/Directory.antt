@@ -8,7 +8,7 @@ use Rattle.orc_wire.specs.declared.type_msg.TypeMsg.{TypeMsg}
 use Rattle.orc_wire.specs.StreamKinds.{CELL_KINDS, ROW_INDEX}
 use Rattle.orc_wire.specs.EncodingKinds.{DIRECT, DIRECT_V2, is_dictionary}
 
--- a column's stream of a kind
+-- whether a stream is this column's and of this kind
 abbrev pub is_stream_of : ℕ → ℕ → StreamMsg → Bool
 is_stream_of column kind stream = (stream.column == column) && (stream.kind == kind)
 
@@ -17,36 +17,38 @@ abbrev pub has_stream : ℕ → ℕ → List StreamMsg → Bool
 has_stream column kind [] = false
 has_stream column kind (s ∷ ss) = is_stream_of column kind s || has_stream column kind ss
 
--- The streams lie one after the other, in the directory's order. One that is missing is empty.
+-- The bytes of a column's stream of this kind. The streams lie one after the other, in the directory's order. A
+-- stream that is missing is empty.
 abbrev pub slice : ℕ → ℕ → List StreamMsg → List ℕ → List ℕ
 slice column kind [] bytes = []
 slice column kind (s ∷ ss) bytes =
     if is_stream_of column kind s then take s.length bytes else slice column kind ss (drop s.length bytes)
 
--- so many bytes have room for the streams
+-- whether the streams fit into `room` bytes
 abbrev pub have_room : ℕ → List StreamMsg → Bool
 have_room room [] = true
 have_room room (s ∷ ss) = nat_le s.length room && have_room (room - s.length) ss
 
--- no kind is used twice for one column
+-- whether no column has two streams of one kind
 abbrev pub names_once : List StreamMsg → Bool
 names_once [] = true
 names_once (s ∷ ss) = not (has_stream s.column s.kind ss) && names_once ss
 
--- PRESENT, DATA, LENGTH, DICTIONARY_DATA and ROW_INDEX need a column that is there
+-- whether streams of this kind need a column that exists: PRESENT, DATA, LENGTH, DICTIONARY_DATA and ROW_INDEX do
 abbrev pub needs_column : ℕ → Bool
 needs_column kind = nat_lt kind CELL_KINDS || (kind == ROW_INDEX)
 
--- each stream whose kind belongs to a column is of a column that there is
+-- whether each stream of a kind that needs a column has a column number below `width`
 abbrev pub have_columns : ℕ → List StreamMsg → Bool
 have_columns width [] = true
 have_columns width (s ∷ ss) = (not (needs_column s.kind) || nat_lt s.column width) && have_columns width ss
 
--- the streams fit into the stripe, none is named twice, and each is of a column that there is
+-- whether the streams fit into the stripe, none is named twice, and each has the column that its kind needs
 abbrev pub is_directory : ℕ → ℕ → List StreamMsg → Bool
 is_directory width room streams = have_room room streams && (names_once streams && have_columns width streams)
 
--- DIRECT and DIRECT_V2 for every column, DICTIONARY and DICTIONARY_V2 for strings
+-- whether a column of this kind may have the encoding: DIRECT and DIRECT_V2 for every column, DICTIONARY and
+-- DICTIONARY_V2 for texts
 abbrev pub takes_encoding : ℕ → ℕ → Bool
 takes_encoding type encoding =
     (encoding == DIRECT)

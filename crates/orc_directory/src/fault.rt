@@ -78,18 +78,19 @@ pub enum StripeFault {
     /// A number lies outside of its column's type.
     #[error("stripe 12 OutOfRange({0})")]
     OutOfRange(usize),
-    /// A cursor has refused before.
+    /// The cursor has failed before.
     #[error("stripe 13 Failed")]
     Failed,
 }
 
-/// The fault of a stream's runs.
+/// Returns the error of a column's stream for a cause in its runs.
 pub fn run_fault(column: usize, kind: StreamKind, cause: RunFault) -> StripeFault
-    // Where the cause isn't want of memory, it is told with the column and the stream.
+    // If `cause` isn't `OutOfMemory`, then the returned error is `Run` with `column`, `kind` and `cause`.
     ensures same { cause ≢ run.OutOfMemory → result ≡ fault.Run column kind cause }
-    // Want of memory is told as such.
+    // If `cause` is `OutOfMemory`, then the returned error is `OutOfMemory`.
     ensures memory { cause ≡ run.OutOfMemory → result ≡ fault.OutOfMemory }
-    // Any other answer is the fault of the stream's runs, of a cause that isn't want of memory.
+    // If the returned error isn't `OutOfMemory`, then it is `Run` with `column`, `kind` and `cause`, and `cause`
+    // isn't `OutOfMemory`.
     ensures fails { result ≢ fault.OutOfMemory → (result ≡ fault.Run column kind cause) × (cause ≢ run.OutOfMemory) }
 {
     match cause {
@@ -98,11 +99,11 @@ pub fn run_fault(column: usize, kind: StreamKind, cause: RunFault) -> StripeFaul
     }
 }
 
-/// The fault of a stripe's footer.
+/// Returns the error of a stripe's footer for its cause.
 pub fn wire_fault(cause: WireFault) -> StripeFault
-    // Want of memory is told as such.
+    // If `cause` is `OutOfMemory`, then the returned error is `OutOfMemory`.
     ensures memory { cause ≡ wire.OutOfMemory → result ≡ fault.OutOfMemory }
-    // Any other answer is the footer's own fault.
+    // The returned error is `OutOfMemory`, or it is `Wire` with `cause`, which isn't `OutOfMemory`.
     ensures either { (result ≡ fault.OutOfMemory) ⊎ ((result ≡ fault.Wire cause) × (cause ≢ wire.OutOfMemory)) }
 {
     match cause {

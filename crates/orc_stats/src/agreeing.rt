@@ -144,8 +144,8 @@ fn values_tell(kind: StatKind, message: &ColumnStats, right: &Body) -> bool
 }
 
 /// Returns whether a message stores the same as the right statistic of a column of a kind; numbers of children may be
-/// missing. It answers as `Stat::agrees` does for the statistic that `Stat::read` makes of the message, and takes no
-/// memory.
+/// missing. The result is that of `Stat::agrees` for the statistic that `Stat::read` makes of the message. It takes
+/// no memory.
 pub fn tells(kind: StatKind, message: &ColumnStats, right: &Stat) -> bool
     // The call returns true if and only if the statistic of kind `kind` that `message` stores has the count, the null
     // flag and the parts of `right`, except that numbers of children may be unknown in it.
