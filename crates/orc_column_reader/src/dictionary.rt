@@ -42,13 +42,13 @@ pub fn entries_of<'a>(
     bytes: &'a [u8],
     size: u32,
 ) -> Result<Vec<Entry<'a>>, StripeFault>
-    // The number of returned entries is `size`. `lengths` are runs of exactly their lengths, and `bytes` are exactly
-    // their bytes, one entry after the other.
+    // If the call succeeds, then it returns `size` entries; `lengths` are runs of exactly their lengths, and `bytes`
+    // are exactly their bytes, one entry after the other.
     ensures found { IfOk result (λ entries. (length entries.items ≡ size)
         × Sized (AreNumbers version Unsigned lengths.now) (Is bytes.now) (map entry_bytes entries.items)) }
-    // If the call fails other than with `OutOfMemory`, then there are no `size` entries whose lengths are `lengths`
-    // and whose bytes are `bytes`; the error is one of LENGTH's runs, or `LengthSum`, if the lengths that come first
-    // add up to more than the bytes or all lengths to less.
+    // If the call fails other than with `OutOfMemory`, then `lengths` and `bytes` are not the lengths and the bytes
+    // of any `size` entries. The error is one of LENGTH's runs, or it is `LengthSum`, and the lengths that come first
+    // add up to more than the number of bytes, or all lengths to less.
     ensures none { IfErr result (λ cause. cause ≢ fault.OutOfMemory → (entries : List (List ℕ)) → length entries ≡ size
         → Sized (AreNumbers version Unsigned lengths.now) (Is bytes.now) entries → ⊥) }
     ensures fault { IfErr result (λ cause. cause ≢ fault.OutOfMemory

@@ -84,9 +84,9 @@ pub fn read_groups(
     requires bounds { AreBounds count bounds.now }
     requires first { bound_at count bounds.now 0 ≡ 0 }
     // If `column` has an encoding in `footer`, `located` has the streams that `footer` names, `count` is below 2^31,
-    // and `bounds` begin with 0, never fall and are at most `count`, then the column's own streams store exactly
-    // `count` cells, without children, and what is returned about the column and about each group is right for these
-    // cells.
+    // `bounds` begin with 0, never fall and are at most `count`, and the call succeeds, then the column's own streams
+    // store exactly `count` cells, without children, and what is returned about the column and about each group is
+    // right for these cells.
     ensures found { IfOk result (λ found. (own : List Cell)
         × IsOwnColumn (shape tree.now) (columns_of footer.now located.now.bytes.now column) count own
         × IsColumnFound (shape tree.now) own bounds.now found) }

@@ -44,10 +44,10 @@ pub fn bits_at(bytes: &[u8], pos: BitPos) -> Result<Bits<'_>, RunFault>
     // n on, whatever `bytes` have before the offset.
     ensures enters { MatchResult result (λ found. EntersBits bytes.now pos.offset pos.skip pos.bits (BitsLeft found))
         (λ _. EntersBits bytes.now pos.offset pos.skip pos.bits (λ _. ⊥)) }
-    // The returned reader is at the end of the last run that is needed to skip `pos.skip` bytes from `pos.offset` on
-    // and, if `pos.bits` is above 0, to reach the next byte. It has that run's bytes after the skipped ones. If
-    // `pos.skip` and `pos.bits` are 0, no run is needed: the reader is at `pos.offset` and has no run. `pos.bits` is
-    // at most 8.
+    // If the call succeeds, then `pos.bits` is at most 8, and the returned reader is at the end of the last run that
+    // is needed to skip `pos.skip` bytes from `pos.offset` on and, if `pos.bits` is above 0, to reach the next byte.
+    // It has that run's bytes after the skipped ones. If `pos.skip` and `pos.bits` are 0, no run is needed: the
+    // reader is at `pos.offset` and has no bytes of a run.
     ensures found { IfOk result
         (λ found. SeeksBits bytes.now pos.offset pos.skip pos.bits found.bytes.at found.bytes.run.values) }
     // The returned reader has `bytes`, holds the byte of which `pos.bits` bits are skipped, without these bits, if

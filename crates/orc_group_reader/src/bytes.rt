@@ -25,7 +25,7 @@ pub fn bytes_at(bytes: &[u8], pos: Pos) -> Result<RunLengthBytes<'_>, RunFault>
         (λ _. EntersRuns IsByteRun bytes.now pos.offset pos.skip (λ _. ⊥)) }
     // The returned reader is at the end of the last run that is needed to skip `pos.skip` values from `pos.offset`
     // on, and has that run's values after the skipped ones. With a `pos.skip` of 0 no run is needed: the reader is at
-    // `pos.offset` and has no run.
+    // `pos.offset` and has no values of a run.
     ensures found { IfOk result
         (λ found. Seeks IsByteRun bytes.now pos.offset pos.skip pos.skip found.at found.run.values) }
     // The returned reader has `bytes` and the start of the last run that it decoded.

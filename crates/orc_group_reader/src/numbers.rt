@@ -46,7 +46,7 @@ pub fn numbers_at<'a>(
         (λ _. EntersRuns (is_run version sign) bytes.now pos.offset pos.skip (λ _. ⊥)) }
     // The returned reader is at the end of the last run that is needed to skip `pos.skip` values from `pos.offset`
     // on, and has that run's values after the skipped ones. With a `pos.skip` of 0 no run is needed: the reader is at
-    // `pos.offset` and has no run.
+    // `pos.offset` and has no values of a run.
     ensures found { IfOk result
         (λ numbers. Seeks (is_run version sign) bytes.now pos.offset pos.skip pos.skip numbers.at numbers.run.values) }
     // The returned reader has `bytes`, `version`, `sign` and the start of the last run that it decoded.

@@ -38,7 +38,7 @@ pub fn readers_at<'a>(
     requires located { AreLocated (length footer.now.columns) footer.now.streams
         located.now.bytes.now located.now.slices.items }
     requires entries { length entries.now ≡ width (shape tree.now) }
-    // The call returns one reader for each column.
+    // If the call succeeds, then it returns one reader for each column.
     ensures counted { IfOk result (λ readers. length readers.items ≡ width (shape tree.now)) }
     // If there are columns that store rows, the entries' positions are right in these columns after the first of the
     // rows, and the columns in `footer` and `located` have the same encodings and dictionaries and the same bytes

@@ -266,11 +266,11 @@ pub fn byte_seek_position(bytes: &[u8], pos: Pos, run: &mut RunU8) -> Result<usi
 pub fn bit_seek_position(bytes: &[u8], pos: BitPos, run: &mut RunU8) -> Result<usize, RunFault>
     requires { (total : ℕ) × (n : ℕ)
         × HasBooleans bytes.now total × IsWriterBitPosition bytes.now total pos.offset pos.skip pos.bits n }
-    // The returned offset is the end of the last run that is needed to skip `pos.skip` values from `pos.offset` on
-    // and, if `pos.bits` is above 0, to reach the next value. `run` contains that run's values after the skipped
-    // ones: if `pos.bits` is above 0, the first is the byte of which `pos.bits` bits are skipped. If `pos.skip` and
-    // `pos.bits` are 0, no run is needed: the returned offset is `pos.offset`, which is at most the length of
-    // `bytes`, and `run` has no values. `pos.bits` is at most 8.
+    // If the call succeeds, then `pos.bits` is at most 8, and the returned offset is the end of the last run that is
+    // needed to skip `pos.skip` values from `pos.offset` on and, if `pos.bits` is above 0, to reach the next value.
+    // `run` contains that run's values after the skipped ones: if `pos.bits` is above 0, the first is the byte of
+    // which `pos.bits` bits are skipped. If `pos.skip` and `pos.bits` are 0, no run is needed: the returned offset is
+    // `pos.offset`, which is at most the length of `bytes`, and `run` has no values.
     ensures found { IfOk result (λ at. SeeksBits bytes.now pos.offset pos.skip pos.bits at run.new.values) }
     // If `pos.bits` is at most 8, `pos.offset` is at most the length of `bytes`, and the runs from there on have the
     // needed values, which are `pos.skip` and one more if `pos.bits` is above 0, then the call returns the end of the

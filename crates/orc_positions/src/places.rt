@@ -40,10 +40,10 @@ impl Model for RunTable {
 /// - `TooMany` with a run's offset, if that run goes past 2^64 - 1 values.
 /// - `OutOfMemory`.
 pub fn run_table<C: RunCodec>(alloc: Global, bytes: &[u8], sign: Sign) -> Result<RunTable, RunFault>
-    // All of `bytes` are runs, one after the other, and the returned table has the offset at which each run begins
-    // and the offset at which the last one ends, each with the number of values before it.
+    // If the call succeeds, then all of `bytes` are runs, one after the other, and the returned table has the offset
+    // at which each run begins and the offset at which the last one ends, each with the number of values before it.
     ensures found { IfOk result (ArePlaces (C.is_run sign) bytes.now) }
-    // If all of `bytes` are runs, one after the other, with fewer than 2^64 values in all, then an error is
+    // If all of `bytes` are runs, one after the other, with fewer than 2^64 values in all, then the only error is
     // `OutOfMemory`.
     ensures only { (values : List ℤ) → IsStream (C.is_run sign) bytes.now values → length values < 2 ^ 64
         → IfErr result (λ fault. fault ≡ OutOfMemory) }
@@ -91,11 +91,12 @@ pub fn run_table<C: RunCodec>(alloc: Global, bytes: &[u8], sign: Sign) -> Result
 /// - `TooMany` with a run's offset, if that run goes past 2^64 - 1 bytes.
 /// - `OutOfMemory`.
 pub fn byte_table(alloc: Global, bytes: &[u8]) -> Result<RunTable, RunFault>
-    // All of `bytes` are byte runs, one after the other, and the returned table has the offset at which each run
-    // begins and the offset at which the last one ends, each with the number of values of the runs before it.
+    // If the call succeeds, then all of `bytes` are byte runs, one after the other, and the returned table has the
+    // offset at which each run begins and the offset at which the last one ends, each with the number of values of
+    // the runs before it.
     ensures found { IfOk result (ArePlaces IsByteRun bytes.now) }
-    // If all of `bytes` are byte runs, one after the other, with fewer than 2^64 values in all, then an error is
-    // `OutOfMemory`.
+    // If all of `bytes` are byte runs, one after the other, with fewer than 2^64 values in all, then the only error
+    // is `OutOfMemory`.
     ensures only { (values : List ℕ) → IsStream IsByteRun bytes.now values → length values < 2 ^ 64
         → IfErr result (λ fault. fault ≡ OutOfMemory) }
 

@@ -51,8 +51,8 @@ impl Counts {
 pub fn counts_after(before: Counts, cells: &[Lent<'_, '_>]) -> Counts
     requires cells { before.cells + length cells.now < 2 ^ 64 }
     requires values { before.values + length cells.now < 2 ^ 64 }
-    // If the number of `cells` can be added to both counts below 2^64, then all `cells` are added to the count of
-    // cells, and those that are not null to the count of values.
+    // If both counts plus the number of `cells` are below 2^64, then all `cells` are added to the count of cells, and
+    // those that are not null to the count of values.
     ensures cells { result.cells ≡ before.cells + length (lent_cells cells.now) }
     ensures values { result.values ≡ before.values + length (values (lent_cells cells.now)) }
     // The number of bytes that the texts and byte strings among `cells` have is added to the count of bytes, which
@@ -71,7 +71,7 @@ pub fn counts_after(before: Counts, cells: &[Lent<'_, '_>]) -> Counts
 pub fn counts_behind(before: Counts, owns: &[Own<'_>]) -> Counts
     requires cells { before.cells + length owns.now < 2 ^ 64 }
     requires values { before.values + length owns.now < 2 ^ 64 }
-    // If the number of `owns` can be added to both counts below 2^64, then all of them are added to the count of
+    // If both counts plus the number of `owns` are below 2^64, then all of these cells are added to the count of
     // cells, and those that are not null to the count of values.
     ensures cells { result.cells ≡ before.cells + length (own_cells owns.now) }
     ensures values { result.values ≡ before.values + length (values (own_cells owns.now)) }

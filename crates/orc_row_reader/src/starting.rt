@@ -34,7 +34,7 @@ pub fn put_tree<'a>(
         located.now.bytes.now located.now.slices.items }
     // If the columns have encodings in `footer`, `located` has the streams that `footer` names, and the call
     // succeeds, then one reader for the column and for each column below it was put after those that were there, in
-    // the order of the columns' numbers, each at the start of its streams.
+    // the order of the columns' numbers, each at the start of its streams and with its column's number.
     ensures found { OnOk result (PutsReaders footer.now located.now.bytes.now
         (shape tree.now) readers.old.items readers.new.items) }
     // If the columns have encodings in `footer`, `located` has the streams that `footer` names, and the call fails
