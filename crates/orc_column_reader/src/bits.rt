@@ -54,14 +54,18 @@ impl<'a> Bits<'a> {
     /// - The error of the next run, if it is invalid, with its offset.
     pub fn next(&mut self) -> Result<bool, RunFault>
         // If the call succeeds, then the booleans that were left before it are the returned one, followed by those
-        // left after it, also if only the first ones can be read because a later run is invalid.
+        // left after it.
         ensures found { IfOk result (λ b. Leaves (BitsLeft self.old) (BitsLeft self.new) (b ∷ [])) }
+        // If the call succeeds, and booleans come first in what is left after it, whatever follows them, then these
+        // came first before it with the returned one in front.
         ensures first { IfOk result (λ b. Precedes (BitsFirst self.old) (BitsFirst self.new) (b ∷ [])) }
-        // If the call fails, then no boolean can be read any more, and the error is one that the reader met before
-        // the call, whatever number of booleans above 0 it had to give. If it succeeds, then each error that the
-        // reader meets after it with n booleans to give is one that it met before with n + 1.
+        // If the call fails, then the stream has no further boolean.
         ensures none { OnErr result (Lacks (BitsLeft self.old) 1) }
+        // If the call succeeds, then each error that the reader meets after it with n booleans to give is one that it
+        // met before with n + 1.
         ensures before { OnOk result ((n : ℕ) (f : Fault) → BitsMeet self.new n f → BitsMeet self.old (suc n) f) }
+        // If the call fails, then the error is one that the reader meets from its place before the call, whatever
+        // number of booleans above 0 it has to give.
         ensures fault { IfErr result (λ fault. (n : ℕ) → BitsMeet self.old (suc n) fault) }
     {
         if self.left == 0 {

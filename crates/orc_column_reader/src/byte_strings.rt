@@ -38,19 +38,20 @@ pub fn next_string<'a>(
         (Sized (NumbersLeft numbers.new) (OctetsLeft octets.new)) (bytes.now ∷ [])) }
     // If the call fails, then the streams have no further byte string.
     ensures none { OnErr result (Lacks (Sized (NumbersLeft numbers.old) (OctetsLeft octets.old)) 1) }
-    // If the call succeeds, then the length of the returned bytes is LENGTH's next number, also if only the first
-    // numbers can be read because a later run is invalid; and the returned bytes are the first of those that were
-    // left, with the others left after the call.
+    // If the call succeeds, and numbers come first in what LENGTH has left after it, whatever follows them, then
+    // these came first before it with the length of the returned bytes in front.
     ensures first { IfOk result
         (λ bytes. Precedes (NumbersFirst numbers.old) (NumbersFirst numbers.new) (pos (length bytes.now) ∷ [])) }
+    // If the call succeeds, then the plain bytes that were left before it are the returned ones, followed by those
+    // left after it.
     ensures bytes { IfOk result (λ bytes. octets.old.rest.now ≡ bytes.now ++ octets.new.rest.now) }
-    // If the call fails other than with `OutOfMemory`, then the error is one of LENGTH's runs or `LengthSum`, and the
-    // reader met it before the call, whatever number of byte strings above 0 it had to give. If the call succeeds,
-    // then each error that the reader meets after it with n byte strings to give is one that it met before with n +
-    // 1.
+    // If the call succeeds, then each error that the reader meets after it with n byte strings to give is one that it
+    // met before with n + 1.
     ensures before { OnOk result ((all : Bool) (n : ℕ) (f : Fault)
         → StringsMeet kind numbers.new octets.new all n column f
         → StringsMeet kind numbers.old octets.old all (suc n) column f) }
+    // If the call fails other than with `OutOfMemory`, then the error is one, of LENGTH's runs or `LengthSum`, that
+    // the reader meets from its place before the call, whatever number of byte strings above 0 it has to give.
     ensures fault { IfErr result (λ cause. cause ≢ fault.OutOfMemory
         → (n : ℕ) → StringsMeet kind numbers.old octets.old false (suc n) column cause) }
 {

@@ -86,14 +86,18 @@ impl<'a> RunLengthBytes<'a> {
     /// - The error of the next run, if it is invalid, with its offset.
     pub fn next(&mut self) -> Result<u8, RunFault>
         // If the call succeeds, then the bytes that were left before it are the returned one, followed by those left
-        // after it, also if only the first ones can be read because a later run is invalid.
+        // after it.
         ensures found { IfOk result (λ byte. Leaves (BytesLeft self.old) (BytesLeft self.new) (byte ∷ [])) }
+        // If the call succeeds, and bytes come first in what is left after it, whatever follows them, then these came
+        // first before it with the returned one in front.
         ensures first { IfOk result (λ byte. Precedes (BytesFirst self.old) (BytesFirst self.new) (byte ∷ [])) }
-        // If the call fails, then no byte can be read any more, and the error is one that the reader met before the
-        // call, whatever number of bytes above 0 it had to give. If it succeeds, then each error that the reader
-        // meets after it with n bytes to give is one that it met before with n + 1.
+        // If the call fails, then the stream has no further byte.
         ensures none { OnErr result (Lacks (BytesLeft self.old) 1) }
+        // If the call succeeds, then each error that the reader meets after it with n bytes to give is one that it
+        // met before with n + 1.
         ensures before { OnOk result ((n : ℕ) (f : Fault) → BytesMeet self.new n f → BytesMeet self.old (suc n) f) }
+        // If the call fails, then the error is one that the reader meets from its place before the call, whatever
+        // number of bytes above 0 it has to give.
         ensures fault { IfErr result (λ fault. (n : ℕ) → BytesMeet self.old (suc n) fault) }
     {
         self.fill()?;

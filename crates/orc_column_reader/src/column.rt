@@ -80,17 +80,19 @@ pub fn next_present(reader: &mut ColumnReader<'_>) -> Result<bool, StripeFault>
         (λ mark. Leaves (MarksLeft reader.old.present) (MarksLeft reader.new.present) (mark ∷ [])) }
     // If the call succeeds, then the column's other streams stay as they are.
     ensures source { OnOk result (reader.new.source ≡ reader.old.source) }
-    // If the call succeeds, then the returned mark is also the first one if only the first marks can be read because
-    // a later run of PRESENT is invalid.
+    // If the call succeeds, and marks come first in what is left after it, whatever follows them, then these came
+    // first before it with the returned one in front.
     ensures first { IfOk result
         (λ mark. Precedes (MarksFirst reader.old.present) (MarksFirst reader.new.present) (mark ∷ [])) }
-    // If the call fails, then no mark can be read any more, and an error other than `OutOfMemory` is one of PRESENT's
-    // runs that the reader met before the call, whatever number of marks above 0 it had to give. If it succeeds, then
-    // each error that the reader meets after it with n marks to give is one that it met before with n + 1.
+    // If the call fails, then PRESENT has no further mark.
     ensures none { OnErr result (Lacks (MarksLeft reader.old.present) 1) }
+    // If the call succeeds, then each error that the reader meets after it with n marks to give is one that it met
+    // before with n + 1.
     ensures before { OnOk result ((n : ℕ) (f : RunsFault)
         → MarksMeet reader.new.present n f
         → MarksMeet reader.old.present (suc n) f) }
+    // If the call fails other than with `OutOfMemory`, then the error is one of PRESENT's runs that the reader meets
+    // from its place before the call, whatever number of marks above 0 it has to give.
     ensures fault { IfErr result (λ cause. cause ≢ fault.OutOfMemory
         → (n : ℕ) → PresentMeets reader.old false (suc n) cause) }
 {
@@ -137,12 +139,13 @@ impl<'a> ValueSource<'a> {
         ensures none { OnErr result (Lacks (ScalarLeft kind self.old) 1) }
         // The column's number stays as it is.
         ensures column { self.new.column ≡ self.old.column }
-        // If the call fails other than with `OutOfMemory`, then the error is one that the reader met before the call,
-        // whatever number of values above 0 it had to give. If the call succeeds, then each error that the reader
-        // meets after it with n values to give is one that it met before with n + 1.
+        // If the call succeeds, then each error that the reader meets after it with n values to give is one that it
+        // met before with n + 1.
         ensures before { OnOk result ((all : Bool) (n : ℕ) (f : Fault)
             → ScalarMeets kind self.new all n f
             → ScalarMeets kind self.old all (suc n) f) }
+        // If the call fails other than with `OutOfMemory`, then the error is one that the reader meets from its place
+        // before the call, whatever number of values above 0 it has to give.
         ensures fault { IfErr result (λ cause. cause ≢ fault.OutOfMemory
             → (n : ℕ) → ScalarMeets kind self.old false (suc n) cause) }
     {
@@ -171,26 +174,30 @@ impl<'a> ValueSource<'a> {
 #[inline(always)]
 pub fn next_size(source: &mut ValueSource<'_>) -> Result<u64, StripeFault>
     // If the call succeeds, then the numbers that LENGTH had left before it are the returned one, followed by those
-    // left after it, also if only the first ones can be read because a later run is invalid.
+    // left after it.
     ensures found { IfOk result
         (λ size. Leaves (NumbersLeft source.old.numbers) (NumbersLeft source.new.numbers) (pos size ∷ [])) }
+    // If the call succeeds, and numbers come first in what LENGTH has left after it, whatever follows them, then
+    // these came first before it with the returned one in front.
     ensures first { IfOk result
         (λ size. Precedes (NumbersFirst source.old.numbers) (NumbersFirst source.new.numbers) (pos size ∷ [])) }
     // If the call succeeds, then there was room for at least as many elements or pairs as the returned size, and the
     // room has become smaller by that number.
     ensures room { IfOk result (λ size. (size ≤ source.old.room) × (source.new.room ≡ source.old.room - size)) }
-    // If the call fails, then there is no further list and no further map, whatever the columns below have.
+    // If the call fails, then there is no further list, whatever the columns below have.
     ensures none { OnErr result ((s : Shape) (below : List Reader) → Lacks (ListsLeft s source.old below) 1) }
+    // If the call fails, then there is no further map, whatever the columns below have.
     ensures no_map { OnErr result ((k v : Shape) (below : List Reader) → Lacks (MapsLeft k v source.old below) 1) }
     // The column's number stays as it is.
     ensures column { source.new.column ≡ source.old.column }
-    // If the call fails other than with `OutOfMemory`, then the error is one of LENGTH's runs or `TooMany` for sizes
-    // without room, and the reader met it before the call, whatever number of sizes above 0 it had to give. If the
-    // call succeeds, then each error that the reader meets after it with n sizes to give is one that it met before
-    // with n + 1.
+    // If the call succeeds, then each error that the reader meets after it with n sizes to give is one that it met
+    // before with n + 1.
     ensures before { OnOk result ((all : Bool) (n : ℕ) (f : Fault)
         → ListsMeet source.new all n f
         → ListsMeet source.old all (suc n) f) }
+    // If the call fails other than with `OutOfMemory`, then the error is one, of LENGTH's runs or `TooMany` for sizes
+    // without room, that the reader meets from its place before the call, whatever number of sizes above 0 it has to
+    // give.
     ensures fault { IfErr result (λ cause. cause ≢ fault.OutOfMemory
         → (n : ℕ) → ListsMeet source.old false (suc n) cause) }
 {

@@ -47,10 +47,12 @@ pub fn entries_of<'a>(
     ensures found { IfOk result (λ entries. (length entries.items ≡ size)
         × Sized (AreNumbers version Unsigned lengths.now) (Is bytes.now) (map entry_bytes entries.items)) }
     // If the call fails other than with `OutOfMemory`, then `lengths` and `bytes` are not the lengths and the bytes
-    // of any `size` entries. The error is one of LENGTH's runs, or it is `LengthSum`, and the lengths that come first
-    // add up to more than the number of bytes, or all lengths to less.
+    // of any `size` entries.
     ensures none { IfErr result (λ cause. cause ≢ fault.OutOfMemory → (entries : List (List ℕ)) → length entries ≡ size
         → Sized (AreNumbers version Unsigned lengths.now) (Is bytes.now) entries → ⊥) }
+    // If the call fails other than with `OutOfMemory`, then the error is one of LENGTH's runs, or it is `LengthSum`
+    // with DICTIONARY_DATA, and the lengths that come first add up to more than the number of bytes, or all lengths
+    // to less.
     ensures fault { IfErr result (λ cause. cause ≢ fault.OutOfMemory
         → StringsFail stream.DictionaryData (record { version = version; sign = Unsigned; bytes = lengths.now })
         true size bytes.now column cause) }

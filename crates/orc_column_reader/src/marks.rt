@@ -32,16 +32,20 @@ pub(crate) fn marks_of(bytes: &[u8]) -> Option<Bits<'_>>
 /// `Run` with PRESENT, if no mark is left or the next run is invalid.
 pub fn next_mark(column: usize, present: &mut Option<Bits<'_>>) -> Result<bool, StripeFault>
     // If the call succeeds, then the marks that were left before it are the returned one, followed by those left
-    // after it, also if only the first ones can be read because a later run of PRESENT is invalid.
+    // after it.
     ensures found { IfOk result (λ mark. Leaves (MarksLeft present.old) (MarksLeft present.new) (mark ∷ [])) }
+    // If the call succeeds, and marks come first in what is left after it, whatever follows them, then these came
+    // first before it with the returned one in front.
     ensures first { IfOk result (λ mark. Precedes (MarksFirst present.old) (MarksFirst present.new) (mark ∷ [])) }
-    // If the call fails, then no mark can be read any more, and an error other than `OutOfMemory` is one of PRESENT's
-    // runs that the reader met before the call, whatever number of marks above 0 it had to give. If it succeeds, then
-    // each error that the reader meets after it with n marks to give is one that it met before with n + 1.
+    // If the call fails, then PRESENT has no further mark.
     ensures none { OnErr result (Lacks (MarksLeft present.old) 1) }
+    // If the call succeeds, then each error that the reader meets after it with n marks to give is one that it met
+    // before with n + 1.
     ensures before { OnOk result ((n : ℕ) (f : RunsFault)
         → MarksMeet present.new n f
         → MarksMeet present.old (suc n) f) }
+    // If the call fails other than with `OutOfMemory`, then the error is one of PRESENT's runs that the reader meets
+    // from its place before the call, whatever number of marks above 0 it has to give.
     ensures fault { IfErr result (λ cause. cause ≢ fault.OutOfMemory
         → RunsFail stream.Present column (λ f. (n : ℕ) → MarksMeet present.old (suc n) f) cause) }
 {

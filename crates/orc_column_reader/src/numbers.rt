@@ -122,14 +122,18 @@ impl<'a> Numbers<'a> {
     #[inline(always)]
     pub fn next(&mut self) -> Result<i64, RunFault>
         // If the call succeeds, then the numbers that were left before it are the returned one, followed by those
-        // left after it, also if only the first ones can be read because a later run is invalid.
+        // left after it.
         ensures found { IfOk result (λ n. Leaves (NumbersLeft self.old) (NumbersLeft self.new) (n ∷ [])) }
+        // If the call succeeds, and numbers come first in what is left after it, whatever follows them, then these
+        // came first before it with the returned one in front.
         ensures first { IfOk result (λ n. Precedes (NumbersFirst self.old) (NumbersFirst self.new) (n ∷ [])) }
-        // If the call fails, then no number can be read any more, and the error is one that the reader met before the
-        // call, whatever number of values above 0 it had to give. If it succeeds, then each error that the reader
-        // meets after it with n values to give is one that it met before with n + 1.
+        // If the call fails, then the stream has no further number.
         ensures none { OnErr result (Lacks (NumbersLeft self.old) 1) }
+        // If the call succeeds, then each error that the reader meets after it with n numbers to give is one that it
+        // met before with n + 1.
         ensures before { OnOk result ((n : ℕ) (f : Fault) → NumbersMeet self.new n f → NumbersMeet self.old (suc n) f) }
+        // If the call fails, then the error is one that the reader meets from its place before the call, whatever
+        // number of numbers above 0 it has to give.
         ensures fault { IfErr result (λ fault. (n : ℕ) → NumbersMeet self.old (suc n) fault) }
         // An error is never `OutOfMemory`.
         ensures no_memory { IfErr result (λ fault. fault ≢ OutOfMemory) }

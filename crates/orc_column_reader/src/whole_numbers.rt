@@ -35,17 +35,20 @@ pub fn next_number(
     numbers: &mut Numbers<'_>,
 ) -> Result<i64, StripeFault>
     // If the call succeeds, then the numbers that were left before it are the returned one, followed by those left
-    // after it, also if only the first ones can be read because a later run is invalid.
+    // after it.
     ensures found { IfOk result (λ n. Leaves (NumbersLeft numbers.old) (NumbersLeft numbers.new) (n ∷ [])) }
+    // If the call succeeds, and numbers come first in what is left after it, whatever follows them, then these came
+    // first before it with the returned one in front.
     ensures first { IfOk result (λ n. Precedes (NumbersFirst numbers.old) (NumbersFirst numbers.new) (n ∷ [])) }
-    // If the call fails, then no number can be read any more, and an error other than `OutOfMemory` is one of the
-    // stream's runs that the reader met before the call, whatever number of values above 0 it had to give. If it
-    // succeeds, then each error that the reader meets after it with n values to give is one that it met before with n
-    // + 1.
+    // If the call fails, then the stream has no further number.
     ensures none { OnErr result (Lacks (NumbersLeft numbers.old) 1) }
+    // If the call succeeds, then each error that the reader meets after it with n numbers to give is one that it met
+    // before with n + 1.
     ensures before { OnOk result ((n : ℕ) (f : RunsFault)
         → NumbersMeet numbers.new n f
         → NumbersMeet numbers.old (suc n) f) }
+    // If the call fails other than with `OutOfMemory`, then the error is one of the stream's runs that the reader
+    // meets from its place before the call, whatever number of numbers above 0 it has to give.
     ensures fault { IfErr result (λ cause. cause ≢ fault.OutOfMemory
         → (n : ℕ) → RunsFail kind column (Always false (suc n) (NumbersMeet numbers.old)) cause) }
 {

@@ -90,7 +90,7 @@ pub fn read_groups(
     ensures found { IfOk result (λ found. (own : List Cell)
         × IsOwnColumn (shape tree.now) (columns_of footer.now located.now.bytes.now column) count own
         × IsColumnFound (shape tree.now) own bounds.now found) }
-    // The returned number of cells of a column right below is less than 2^31.
+    // If the call succeeds, then a column right below has fewer than 2^31 cells.
     ensures few { IfOk result (λ found. found.below < cell_limit) }
     // If `column` has an encoding in `footer`, `located` has the streams that `footer` names, `count` is below 2^31,
     // `bounds` begin with 0, never fall and are at most `count`, and the call fails other than with `OutOfMemory`,

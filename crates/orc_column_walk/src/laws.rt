@@ -14,8 +14,8 @@ ghost use Rattle.orc_column_walk.specs.OwnFaults.{RefusedDown};
 /// that the own streams of a column of rows store its cells without their children. If a column doesn't store as many
 /// cells as the columns above require, then there are no rows, and its error is one of the stripe's.
 pub fn own_column_laws()
-    // If each column's own streams store cells, without children, and as many as the column above has children, then
-    // there are rows that the columns store.
+    // If each column's own streams store cells, without children, n for the root and for any other column as many as
+    // the column above has children, then there are n rows that the columns store.
     ensures rows { (s : Shape) (x : ℕ → Streams) (n : ℕ) (own : ℕ → List Cell)
         → AreOwnColumns s x own n
         → (rows : List Cell) × SpellRows s x n rows }
@@ -28,8 +28,9 @@ pub fn own_column_laws()
     ensures cells { (s : Shape) (x : ℕ → Streams) (n : ℕ) (own : ℕ → List Cell) (rows : List Cell)
         → AreOwnColumns s x own n → SpellRows s x n rows
         → (c : ℕ) → c < width s → own c ≡ map childless (cells s c rows) }
-    // If some column's own streams don't store as many cells as the column above it has children, and those above it
-    // do, then there are no rows, and the column's error is one of the stripe's.
+    // If the own streams of a column don't store the needed number of cells, which is n for the root and for any
+    // other column the number of children of the column above, and those of the columns above it do, then there are
+    // no n rows, and the column's error is one of the stripe's.
     ensures refused { (s : Shape) (columns : ℕ → Streams) (all : Bool) (n : ℕ) (f : StripeFault)
         → RefusedDown s columns 0 all n f
         → RowsFault s columns n f }

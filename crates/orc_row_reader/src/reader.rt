@@ -49,12 +49,15 @@ pub fn next_cell<'a>(
     ensures found { IfOk result (λ row. Leaves (CellsLeft (shape tree.now) readers.old)
         (CellsLeft (shape tree.now) readers.new) (view row ∷ [])) }
     // If there is one reader for each column of the type, and the call fails other than with `OutOfMemory`, then the
-    // readers had no further cell, and the error is one that they met before the call, whatever number of cells above
-    // 0 they had to give. If the call succeeds, then each error that the readers meet after it with n cells to give
-    // is one that they met before with n + 1.
+    // readers have no further cell.
     ensures none { IfErr result (λ fault. fault ≢ OutOfMemory → Lacks (CellsLeft (shape tree.now) readers.old) 1) }
+    // If there is one reader for each column of the type, and the call succeeds, then each error that the readers
+    // meet after it with n cells to give is one that they met before with n + 1.
     ensures before { OnOk result ((all : Bool) (n : ℕ) (f : Fault) → CellsMeet (shape tree.now) readers.new all n f
         → CellsMeet (shape tree.now) readers.old all (suc n) f) }
+    // If there is one reader for each column of the type, and the call fails other than with `OutOfMemory`, then the
+    // error is one that the readers meet from their places before the call, whatever number of cells above 0 they
+    // have to give.
     ensures fault { IfErr result (λ cause. cause ≢ OutOfMemory
         → (n : ℕ) → CellsMeet (shape tree.now) readers.old false (suc n) cause) }
 {
@@ -87,12 +90,15 @@ pub fn next_value<'a>(
     ensures column { OnOk result (column_of readers.new ≡ column_of readers.old) }
     ensures marks { IfOk result (λ _. marks_of readers.new ≡ marks_of readers.old) }
     // If there is one reader for each column of the type, and the call fails other than with `OutOfMemory`, then the
-    // readers had no further value, and the error is one that they met before the call, whatever number of values
-    // above 0 they had to give. If the call succeeds, then each error that the readers meet after it with n values to
-    // give is one that they met before with n + 1.
+    // readers have no further value.
     ensures none { IfErr result (λ fault. fault ≢ OutOfMemory → Lacks (OwnLeft (shape tree.now) readers.old) 1) }
+    // If there is one reader for each column of the type, and the call succeeds, then each error that the readers
+    // meet after it with n values to give is one that they met before with n + 1.
     ensures before { OnOk result ((all : Bool) (n : ℕ) (f : Fault) → OwnMeet (shape tree.now) readers.new all n f
         → OwnMeet (shape tree.now) readers.old all (suc n) f) }
+    // If there is one reader for each column of the type, and the call fails other than with `OutOfMemory`, then the
+    // error is one that the readers meet from their places before the call, whatever number of values above 0 they
+    // have to give.
     ensures fault { IfErr result (λ cause. cause ≢ OutOfMemory
         → (n : ℕ) → OwnMeet (shape tree.now) readers.old false (suc n) cause) }
 {
@@ -225,19 +231,22 @@ pub fn next_cells<'a>(
     count: u64,
 ) -> Result<Vec<Row<'a>>, StripeFault>
     requires { length readers.old ≡ width (shape tree.now) }
-    // If there is one reader for each column of the type, and the call succeeds, then it returns `count` cells, and
-    // the cells that the readers had left are these, with all that they contain, followed by those left after the
-    // call.
+    // If there is one reader for each column of the type, and the call succeeds, then the cells that the readers had
+    // left are the returned ones, in order and with all that they contain, followed by those left after the call.
     ensures found { IfOk result (λ rows. Leaves (CellsLeft (shape tree.now) readers.old)
         (CellsLeft (shape tree.now) readers.new) (views rows.items)) }
+    // If there is one reader for each column of the type, and the call succeeds, then it returns `count` cells.
     ensures counted { IfOk result (λ rows. length (views rows.items) ≡ count) }
     // If there is one reader for each column of the type, and the call fails other than with `OutOfMemory`, then the
-    // readers had fewer than `count` cells, and the error is one that they met before the call, whatever number of
-    // cells from `count` on they had to give. If the call succeeds, then each error that the readers meet after it
-    // with n cells to give is one that they met before with `count` + n.
+    // readers have fewer than `count` cells left.
     ensures none { IfErr result (λ fault. fault ≢ OutOfMemory → Lacks (CellsLeft (shape tree.now) readers.old) count) }
+    // If there is one reader for each column of the type, and the call succeeds, then each error that the readers
+    // meet after it with n cells to give is one that they met before with `count` + n.
     ensures before { OnOk result ((all : Bool) (n : ℕ) (f : Fault) → CellsMeet (shape tree.now) readers.new all n f
         → CellsMeet (shape tree.now) readers.old all (count + n) f) }
+    // If there is one reader for each column of the type, and the call fails other than with `OutOfMemory`, then the
+    // error is one that the readers meet from their places before the call, whatever number of cells, at least
+    // `count`, they have to give.
     ensures fault { IfErr result (λ cause. cause ≢ OutOfMemory
         → (n : ℕ) → CellsMeet (shape tree.now) readers.old false (count + n) cause) }
 {

@@ -38,11 +38,13 @@ pub fn put_tree<'a>(
     ensures found { OnOk result (PutsReaders footer.now located.now.bytes.now
         (shape tree.now) readers.old.items readers.new.items) }
     // If the columns have encodings in `footer`, `located` has the streams that `footer` names, and the call fails
-    // other than with `OutOfMemory`, then the streams store no list of cells of the type, and the error is one of
-    // these columns, whatever number of cells is needed.
+    // other than with `OutOfMemory`, then the streams store no list of cells of the type.
     ensures none { IfErr result (λ fault. fault ≢ OutOfMemory → (cells : List Cell)
         → SpellsCells (shape tree.now) (columns_from footer.now located.now.bytes.now (length readers.old.items)) cells
         → ⊥) }
+    // If the columns have encodings in `footer`, `located` has the streams that `footer` names, and the call fails
+    // other than with `OutOfMemory`, then the error is one of the column or of a column below it, whatever number of
+    // cells, or more, it needs.
     ensures fault { IfErr result (λ cause. cause ≢ OutOfMemory
         → (count : ℕ) → FaultDown (shape tree.now) (columns_of footer.now located.now.bytes.now)
         (length readers.old.items) false count cause) }

@@ -127,8 +127,8 @@ pub fn join_laws()
 pub fn agree_laws()
     // A statistic agrees with itself.
     ensures same { (s : Stat) → Agrees s s }
-    // If a statistic forgets the numbers of children that some body doesn't know, then it agrees with the statistic
-    // before that.
+    // If the numbers of children that some body doesn't know are removed from a statistic, then the result agrees
+    // with the statistic.
     ensures less { (o : Body) (s : Stat) → Agrees (known_as o s) s }
     // A statistic of lists or maps agrees with another one of lists or maps if and only if both have the same count
     // and the same null flag, and each number of children is unknown in the first or is that of the second.
