@@ -15,7 +15,7 @@ use orc_rle::{BitPos, BitRuns, ByteRuns, Pos, Run, RunCodec, RunFault, RunU8, Si
 
 /// States the laws of positions in streams of integers (ORC specification, "Row Group Index"). A position that names
 /// value n of a stream can be sought, and reading goes on with the values from n on. Only the bytes from the
-/// position's offset on matter. A position names one value, and each value has one writer's position.
+/// position's offset on matter. A position names at most one value, and a value has at most one writer's position.
 pub fn seek_laws<C: RunCodec>()
     // If bytes are a stream of runs and a position names value n of it, then seeking finds the position, and the
     // values left of the last run that is needed to skip the position's values, followed by those of the runs after

@@ -33,7 +33,7 @@ pub record ArePlaced (s : Shape) (x : Streams) (placed : PlacedStreams) : Type 0
   pub content_is : lent_bytes placed.content ≡ value_bytes s x
   pub own_is : runs placed.own ≡ value_runs s x
 
--- the stream has n values or more
+-- the stream has at least n values; one of booleans has at least n / 8 bytes in its runs
 abbrev pub HasPosition : RunStream → ℕ → Type 0
 HasPosition no_stream n = Unit {0}
 HasPosition (bit_runs stream) n = HasValues IsByteRun stream (n / 8)

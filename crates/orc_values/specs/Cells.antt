@@ -16,7 +16,7 @@ mutual
     leaf : Atom → Cell
     list : Cells → Cell
     struct : Cells → Cell
-    -- of a map
+    -- the pairs of a map
     pairs : Pairs → Cell
 
   pub data Cells : Type 0 where

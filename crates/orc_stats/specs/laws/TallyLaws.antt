@@ -117,7 +117,7 @@ module _ {P : Type 0} (m : Measure P) where
       → stat_of_kept m (stats_kept m ss) ≡ joined k ss
   stat_of_kept_stats k ss e = stat_is (stats_kept_count ss) (stats_kept_nulls ss) (ap m.body (stats_kept_parts ss) ∙ e (valued_bodies ss))
 
--- ---- parts of one word
+-- ---- one part, joined by one operation
 module _ {A : Type 0} (op : A → A → A) (o : IsOrderly op) where
   pub value_onto : (x : A) (r : Option A) → both op (Known x) (value_seen r) ≡ Known (onto op x r)
   value_onto x None = refl
