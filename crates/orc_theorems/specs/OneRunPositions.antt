@@ -1,4 +1,4 @@
--- Positions from which one run is read at most (ORC specification, "Row Group Index").
+-- Positions from which at most one run is read (ORC specification, "Row Group Index").
 use Rattle.std.specs.Prelude.{◌≡◌, ℕ, ◌+◌, ◌<◌, ◌≤◌, Some, List, [], ◌++◌, length, drop, slice_get}
 use Rattle.orc_rle.specs.ByteRun.{IsByteRun}
 use Rattle.orc_rle.specs.Seeking.{bytes_needed}
@@ -24,8 +24,8 @@ use Rattle.orc_file_reader.specs.FileRows.{opened_stripe, cut_rows}
 use Rattle.orc_tail.specs.declared.tail.Tail.{Tail}
 use Rattle.orc_check.specs.Findings.{rows_at}
 
--- What `seek` promises of the count of runs that it reads, where so many values are needed from an offset on: it rises
--- by no more than these, and by one at most where the run at the offset has as many.
+-- What `seek` promises about the count of runs that it reads, if `need` values are needed from an offset on. The
+-- count rises by at most `need`, and by at most one if the run at the offset has `need` values.
 pub record SeekCounts {A : Type 0} (is_run : List ℕ → List A → Type 0) (bytes : List ℕ)
     (offset need old new : ℕ) : Type 0 where
   pub count : new ≤ old + need
@@ -35,20 +35,22 @@ pub record SeekCounts {A : Type 0} (is_run : List ℕ → List A → Type 0) (by
       → need ≤ length v
       → new ≤ old + 1
 
--- it is the position that a writer gives to value n, and `seek` counts one run at most from there on
+-- the position that a writer records for value n of a stream of integers or bytes, from which `seek` reads at most
+-- one run
 pub record NeedsOneRun {A : Type 0} (is_run : List ℕ → List A → Type 0) (bytes : List ℕ)
     (offset skip n : ℕ) : Type 0 where
   pub place : IsWriterPosition is_run bytes offset skip n
   pub one_run : (old new : ℕ) → SeekCounts is_run bytes offset skip old new → new ≤ old + 1
 
--- the same of booleans
+-- the position that a writer records for value n of a stream of booleans, from which `seek` reads at most one run
 pub record NeedsOneBitRun (bytes : List ℕ) (offset skip bits n : ℕ) : Type 0 where
   pub total : ℕ
   pub has : HasBooleans bytes total
   pub place : IsWriterBitPosition bytes total offset skip bits n
   pub one_run : (old new : ℕ) → SeekCounts IsByteRun bytes offset (bytes_needed skip bits) old new → new ≤ old + 1
 
--- The same, whatever the runs are of. Of booleans the stream has as many as its column has cells or values.
+-- The position that a writer records for value n of a stream, from which `seek` reads at most one run. A column
+-- without such a stream has no positions.
 abbrev pub IsOneRunPosition : RunStream → ℕ → List ℕ → Type 0
 IsOneRunPosition no_stream n positions = positions ≡ []
 IsOneRunPosition (bit_runs stream) n positions = BitsPosition (NeedsOneBitRun stream) n positions
@@ -56,7 +58,8 @@ IsOneRunPosition (byte_runs stream) n positions = RunPosition (NeedsOneRun IsByt
 IsOneRunPosition (number_runs version sign stream) n positions =
     RunPosition (NeedsOneRun (is_run version sign) stream) n positions
 
--- such positions of a column behind these cells
+-- A column's positions after these cells. From each of them in a stream of runs `seek` reads at most one run. Between
+-- that of PRESENT and that of the other stream of runs comes that of the column's plain bytes, if it has any.
 pub record AreOneRunPositions (s : Shape) (x : Streams) (before : List Cell) (positions : List ℕ) : Type 0 where
   pub first : List ℕ
   pub last : List ℕ
@@ -64,8 +67,8 @@ pub record AreOneRunPositions (s : Shape) (x : Streams) (before : List Cell) (po
   pub present_position : IsOneRunPosition (present_runs (in_present x)) (length before) first
   pub value_position : IsOneRunPosition (value_runs s x) (length (values before)) last
 
--- Each entry of the index of column c, as it is read of a stripe of these rows, has such positions behind the cells
--- before its group.
+-- Each entry of column c's row index, as it is read from a stripe of these rows, has such positions: those after the
+-- column's cells before the entry's group.
 abbrev pub ColumnReadsOneRun : Opened → List Cell → ℕ → Type 0
 ColumnReadsOneRun view rows c =
     (message : RowIndexMsg) → HasIndex view.footer view.bytes c message
@@ -74,7 +77,7 @@ ColumnReadsOneRun view rows c =
     (before_group (cells view.schema c rows) (bounds_of view.schema c rows (starts_of_groups view.stride (length rows))) g)
     entry.positions
 
--- From each position in each row index of a file of these rows one run is read at most.
+-- From each position in each row index of a file with these rows `seek` reads at most one run.
 abbrev pub ReadsOneRun : List ℕ → Tail → List Cell → Type 0
 ReadsOneRun bytes tail rows =
     0 < tail.stride → (n : ℕ) → n < length tail.stripes → (footer : StripeFooter)

@@ -18,21 +18,23 @@ use Rattle.orc_file_writer.specs.Writing.{WroteWholeFile}
 use Rattle.orc_tail.specs.declared.tail.Tail.{Tail}
 use Rattle.orc_check.specs.Findings.{rows_at}
 
--- the directory lists an index of column c: the one that is written of the column's streams and cells
+-- the directory lists a row index of column c, which is the one that a writer writes from the column's streams and
+-- cells
 abbrev pub HasWrittenIndex : ℕ → Shape → List Cell → StripeFooter → List ℕ → ℕ → Type 0
 HasWrittenIndex stride s rows footer bytes c =
     (has_stream c ROW_INDEX footer.streams ≡ true)
     × IsWrittenIndex (shape_at s c) (columns_of footer bytes c) (cells s c rows)
     (bounds_of s c rows (starts_of_groups stride (length rows))) (slice c ROW_INDEX footer.streams bytes)
 
--- a stripe of these rows has such an index of each column
+-- each column of a stripe with these rows has the row index that a writer writes
 pub record IsIndexedAsWritten (s : Shape) (stride : ℕ) (info : StripeInfo) (bytes : List ℕ)
     (rows : List Cell) : Type 0 where
   pub footer : StripeFooter
   pub has_footer : HasFooter s info bytes footer
   pub written : (c : ℕ) → c < width s → HasWrittenIndex stride s rows footer bytes c
 
--- where the stride is above 0, each stripe of a file of these rows is indexed so
+-- if the stride is above 0, each column of each stripe of a file with these rows has the row index that a writer
+-- writes
 abbrev pub HasWrittenIndexes : List ℕ → Tail → List Cell → Type 0
 HasWrittenIndexes bytes tail rows =
     0 < tail.stride → (n : ℕ) → n < length tail.stripes
@@ -40,7 +42,7 @@ HasWrittenIndexes bytes tail rows =
     (stripe_bytes (stripe_at tail.stripes n) bytes)
     (rows_at (cut_rows tail.stripes rows) n)
 
--- each input is a file of these rows whose stripes are
+-- each input is a file with these rows, and its row indexes are those that a writer writes
 abbrev pub AreIndexedAsWritten : List (List ℕ) → List (List Cell) → Type 0
 AreIndexedAsWritten [] [] = Unit {0}
 AreIndexedAsWritten [] (rows ∷ parts) = ⊥
@@ -48,7 +50,7 @@ AreIndexedAsWritten (b ∷ bs) [] = ⊥
 AreIndexedAsWritten (b ∷ bs) (rows ∷ parts) =
     ((tail : Tail) × FileIs b tail rows × HasWrittenIndexes b tail rows) × AreIndexedAsWritten bs parts
 
--- `finish` of a writer wrote these bytes of these rows
+-- `Writer::finish` wrote these bytes for these rows
 pub record WasWritten (bytes : List ℕ) (rows : List Cell) : Type 0 where
   pub options : Options
   pub schema : Shape
@@ -58,6 +60,6 @@ pub record WasWritten (bytes : List ℕ) (rows : List Cell) : Type 0 where
   pub finish_wrote : WroteWholeFile options schema tail first told rows
   pub bytes_are : bytes ≡ finish_wrote.bytes
 
--- each input was written so
+-- `Writer::finish` wrote each input, for these rows
 abbrev pub WereWritten : List (List ℕ) → List (List Cell) → Type 0
 WereWritten = AllZip WasWritten

@@ -1,13 +1,13 @@
-//! Why a caller gives up.
+//! Why a call that checks, joins or opens files fails.
 use orc_merger::MergeFault;
 use orc_tail::FileFault;
 
-/// Why a caller gives up: what a call of its answered.
+/// Why a call that checks, joins or opens files fails.
 #[derive(Clone, Copy, Debug, PartialEq, Eq)]
 pub enum CallFault {
-    /// A file isn't opened or checked.
+    /// A file could not be opened or checked.
     File(FileFault),
-    /// Files aren't merged.
+    /// Files could not be merged.
     Merge(MergeFault),
 }
 

@@ -1,5 +1,5 @@
-//! Callers over the theorem of reading from the middle: they check a file, and where nothing is found print its rows
-//! from a group on, or those of another file, which may differ from it before the group.
+//! Callers of `reading_from_the_middle`. They check a file and, if it has no findings, print its rows from a group
+//! on, or those of another file that may differ from it before the group.
 ghost use Rattle.std.specs.Prelude.{◌≡◌, ◌≢◌, ℕ, List, [], drop, IsTrue, false, IfOk, IfErr};
 ghost use Rattle.std.specs.Io.KnownBytes.{Appends};
 ghost use Rattle.orc_values.specs.Cells.{Cell};
@@ -22,27 +22,28 @@ use orc_io::SliceSource;
 use std::alloc::Global;
 use std::io::Write;
 
-/// Checks a file, and where nothing is found of it prints the lines of its rows from a group of a stripe on, which a
-/// text names, as `2:0` does; whether it printed is answered. The lines are those of the file's rows from the group's
-/// first one on, by the clause `lines`; and where the group is there and the rows have JSON, it is refused for nothing
-/// that is the file's, by the clause `only`.
+/// Checks a file and, if it has no findings, prints its rows from a group of a stripe on. `from`, such as `2:0`,
+/// names the stripe and the group. Returns whether the rows were printed. That these are the file's rows from the
+/// group's first row on follows from clause `lines` of `reading_from_the_middle`, and that no fault of the file comes
+/// from its clause `only`.
 ///
-/// Refusals: those of `check` and of `rows_to`.
+/// # Errors
+///
+/// Fails if `check` or `rows_to` fails.
 pub fn print_from<W: Write>(
     alloc: Global,
     bytes: &[u8],
     from: &str,
     out: &mut W,
 ) -> Result<bool, CliFault>
-    // If true is returned, then `bytes` are a file with rows, `from` names a stripe and a group, and the output
-    // has got exactly the lines of the file's rows from the group's first row on if the output's bytes are
-    // known.
+    // If `true` is returned, then `bytes` are a file with rows, `from` names a stripe and a group, and the output has
+    // got exactly the lines of the file's rows from the group's first row on if the output's bytes are known.
     ensures lines { IfOk result (λ printed. IsTrue printed
         → (tail : Tail) × (rows : List Cell) × (stripe : ℕ) × (group : ℕ)
         × FileIs bytes.now tail rows × IsStartText from.now stripe group
         × Appends (W.contents out.old) (W.contents out.new)
         (row_lines tail.schema (drop (rows_before tail stripe group) rows))) }
-    // If false is returned, then `bytes` are a file with rows and with at least one finding.
+    // If `false` is returned, then `bytes` are a file with rows and with at least one finding.
     ensures found { IfOk result (λ printed. printed ≡ false
         → (found : List Finding) × AreFound bytes.now found × (found ≢ [])) }
     // If `bytes` are a file with rows that have JSON, and `from` names a stripe and a group that the file has,
@@ -53,7 +54,7 @@ pub fn print_from<W: Write>(
         → ((n g : ℕ) → IsStartText from.now n g → IsPlace tail n g)
         → IsOutsideFile e) }
 {
-    // for its contract alone: where nothing is found, what is printed from a group on are the rows from there on
+    // for its contract alone: if a file has no findings, the rows printed from a group on are its rows from there on
     reading_from_the_middle();
     let found = found_in(alloc, bytes)?;
     if !found.is_empty() {
@@ -65,12 +66,14 @@ pub fn print_from<W: Write>(
     }
 }
 
-/// Checks a file, and where nothing is found of it prints the lines of another one from a group of a stripe on;
-/// whether it printed is answered. Where the other has the same tail and differs from the first, in that stripe and
-/// those behind it, only before the group's offsets, the lines are those of the first one's rows, by the clause
-/// `lines_alone`.
+/// Checks a file and, if it has no findings, prints the rows of another file from a group of a stripe on. `from`,
+/// such as `2:0`, names the stripe and the group. Returns whether the rows were printed. If the other file has the
+/// same tail and differs from the checked one, in that stripe, only before the group's offsets, and in no later
+/// stripe, then the lines are those of the checked file's rows, by clause `lines_alone` of `reading_from_the_middle`.
 ///
-/// Refusals: those of `check` and of `rows_to`.
+/// # Errors
+///
+/// Fails if `check` or `rows_to` fails.
 pub fn print_other_from<W: Write>(
     alloc: Global,
     checked: &[u8],
@@ -78,11 +81,11 @@ pub fn print_other_from<W: Write>(
     from: &str,
     out: &mut W,
 ) -> Result<bool, CliFault>
-    // If true is returned, then `other` has a tail, `from` names a stripe and a group, and the output has got
-    // exactly the lines of `other` from this group on if the output's bytes are known. If `checked` is a file
-    // with this tail and rows, and `other` differs from it, in that stripe and all later ones, only before the
-    // offsets that the group's index entries record, these are the lines of the rows of `checked` from the
-    // group's first row on.
+    // If `true` is returned, then `other` has a tail, `from` names a stripe and a group, and the output has got
+    // exactly the lines of `other` from this group on if the output's bytes are known. If `checked` is a file with
+    // this tail and rows, and `other` differs from it, in this stripe, only before the offsets that the group's index
+    // entries record, and in no later stripe, then these lines are those of the rows of `checked` from the group's
+    // first row on.
     ensures lines { IfOk result (λ printed. IsTrue printed
         → (tail : Tail) × (lines : List ℕ) × (stripe : ℕ) × (group : ℕ)
         × IsTail other.now tail × IsStartText from.now stripe group
@@ -91,11 +94,11 @@ pub fn print_other_from<W: Write>(
         × ((rows : List Cell) → FileIs checked.now tail rows
         → FileDiffersOnlyBefore checked.now tail stripe group other.now
         → lines ≡ row_lines tail.schema (drop (rows_before tail stripe group) rows))) }
-    // If false is returned, then `checked` is a file with rows and with at least one finding.
+    // If `false` is returned, then `checked` is a file with rows and with at least one finding.
     ensures found { IfOk result (λ printed. printed ≡ false
         → (found : List Finding) × AreFound checked.now found × (found ≢ [])) }
 {
-    // for its contract alone: what stands before a group's offsets has no part in what is printed from it on
+    // for its contract alone: bytes before a group's offsets don't change what is printed from the group on
     reading_from_the_middle();
     let found = found_in(alloc, checked)?;
     if !found.is_empty() {

@@ -1,6 +1,6 @@
-//! The theorems: of each a function that does nothing, whose contract is the statement, whole, premises first and
-//! each by a name. And callers over each, which make the calls that it speaks of: what they promise is what it says
-//! of these. Beside them stand two laws over definitions of several crates: `place_laws` and `written_finding_laws`.
+//! The theorems. Each is a function that does nothing: its contract is the statement, and each premise has a name.
+//! Beside each theorem stand callers: they make the calls that the theorem speaks of, and their contracts are proved
+//! from it. Two laws over definitions of several crates stand here too: `place_laws` and `written_finding_laws`.
 #![tactic(auto)]
 
 mod fault;

@@ -7,14 +7,14 @@ use orc_merger::{MergeFault, merge};
 use orc_tail::Tail;
 use std::alloc::Global;
 
-/// A file that a call wrote to memory: the tail that the call answered, and the bytes.
+/// A file that a call wrote to memory: the tail that the call returned, and the file's bytes.
 #[derive(Drop)]
 pub struct FileInMemory {
     pub tail: Tail,
     pub bytes: Vec<u8>,
 }
 
-/// Joins two files.
+/// Joins two files in memory.
 pub(crate) fn join_two(
     alloc: Global,
     first: &[u8],
@@ -35,7 +35,7 @@ pub(crate) fn join_two(
     }
 }
 
-/// Joins three files at once.
+/// Joins three files in memory by one merge.
 pub(crate) fn join_three(
     alloc: Global,
     first: &[u8],
@@ -61,7 +61,7 @@ pub(crate) fn join_three(
     }
 }
 
-/// Whether two files have the same bytes.
+/// Returns whether two files have the same bytes.
 pub(crate) fn is_same(left: &[u8], right: &[u8]) -> bool
     ensures { IsTrue result ↔ (left.now ≡ right.now) }
 {

@@ -1,9 +1,9 @@
-//! What is found of merged files. `findings_of_merges` does nothing: its contract is the statement.
+//! The findings of merged files. `findings_of_merges` does nothing: its contract is the statement.
 //!
-//! `Findings bytes tail rows found` says that `check` finds this list in a file with this tail and these rows: each
-//! of its statistics, of stripes, of groups of rows and of the whole file, that isn't that of the rows, and each row
-//! index that doesn't say where the groups begin. `AreWithoutFinding files parts` says that each file has these rows,
-//! and that nothing is found of it.
+//! `Findings bytes tail rows found` says that `check` returns the list `found` for a file with this tail and these
+//! rows: an entry for each statistic, of a stripe, of a row group or of the whole file, that isn't that of the rows,
+//! and for each row index entry that is missing or doesn't lead to its group. `AreWithoutFinding files parts` says
+//! that each file has its rows in `parts`, and no findings.
 ghost use Rattle.std.specs.Prelude.{◌<◌, ◌^◌, ℕ, List, [], length};
 ghost use Rattle.orc_values.specs.Cells.{Cell};
 ghost use Rattle.orc_file_reader.specs.FileRows.{FileIs, rows_together};
@@ -16,9 +16,9 @@ ghost use Rattle.orc_theorems.specs.Inputs.{AreWithoutFinding};
 use orc_check::finding_laws;
 use orc_merge_laws::{grouping, orders};
 
-/// A file that is merged of files of which nothing is found has their rows in order, and nothing is found of it. So
-/// this holds of what is merged in groups, however deep: and reading from a group of rows, which is right in the
-/// inputs, is right in what is merged of them.
+/// If none of several files has findings, then their merged file has their rows, in order, and no findings either.
+/// This holds for merges of merges too. So reading from a row group, which is right in the inputs, is right in the
+/// merged file.
 pub fn findings_of_merges()
     // If a merged file has fewer than 2^64 bytes, and each input is a file with rows and no findings, then the
     // merged file has the merged tail, the inputs' rows, in order, and no findings.
@@ -34,8 +34,8 @@ pub fn findings_of_merges()
         → (nothing_is_found_of_the_files : AreWithoutFinding (all_leaves groups) parts)
         → (tail : Tail) × FileIs out tail (rows_together parts) × Findings out tail (rows_together parts) [] }
 {
-    // each for its contract alone: nothing is found of a file exactly where its rows have the statistics and indexes
-    // that it tells, and a merged file has its inputs' rows, in order, and the statistics of all of them
+    // each for its contract alone: a file has no findings if and only if its statistics and row indexes are those of
+    // its rows, and a merged file has its inputs' rows, in order, and the statistics of all of them
     finding_laws();
     grouping();
     orders();

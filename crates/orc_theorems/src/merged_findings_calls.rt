@@ -1,4 +1,4 @@
-//! A caller over the theorem of findings: it checks two files, joins them, and checks what that gave.
+//! A caller of `findings_of_merges`: it checks two files, joins them, and checks the joined file.
 ghost use Rattle.std.specs.Prelude.{◌≡◌, ◌⊎◌, ◌∷◌, [], List, Some, IfOk, IfErr};
 ghost use Rattle.orc_values.specs.Cells.{Cell};
 ghost use Rattle.orc_file_reader.specs.FileRows.{FileIs};
@@ -15,7 +15,7 @@ use orc_io::SliceSource;
 use orc_tail::FileFault;
 use std::alloc::Global;
 
-/// What is found of two files, the file that they are joined into, and what is found of that.
+/// The findings of two files, the file that they were joined into, and its findings.
 #[derive(Drop)]
 pub struct CheckedJoin {
     pub first: Vec<Finding>,
@@ -24,7 +24,7 @@ pub struct CheckedJoin {
     pub found: Vec<Finding>,
 }
 
-/// What is found of a file in memory.
+/// Returns the findings of a file in memory.
 pub(crate) fn found_in(alloc: Global, bytes: &[u8]) -> Result<Vec<Finding>, FileFault>
     ensures found { IfOk result (λ found. AreFound bytes.now found.items) }
     ensures only { (tail : Tail) (rows : List Cell) → FileIs bytes.now tail rows
@@ -34,10 +34,12 @@ pub(crate) fn found_in(alloc: Global, bytes: &[u8]) -> Result<Vec<Finding>, File
     check(alloc, &mut source)
 }
 
-/// Checks two files, joins them, and checks what that gave. Where nothing is found of either, nothing is found of
-/// that, by the clause `merged`.
+/// Checks two files, joins them, and checks the joined file. If neither has findings, then the joined file has none,
+/// by clause `merged` of `findings_of_merges`.
 ///
-/// Refusals: those of `check` and of `merge`, of one of its four calls.
+/// # Errors
+///
+/// Fails if one of its three calls of `check` or its call of `merge` fails.
 pub fn join_checked(alloc: Global, first: &[u8], second: &[u8]) -> Result<CheckedJoin, CallFault>
     // If the call succeeds, then `first` and `second` are files with rows, and the findings that are returned
     // for each are exactly its findings.
@@ -54,8 +56,8 @@ pub fn join_checked(alloc: Global, first: &[u8], second: &[u8]) -> Result<Checke
     // the merged file.
     ensures nothing { IfOk result (λ done. done.first.items ≡ [] → done.second.items ≡ [] → done.found.items ≡ []) }
 {
-    // each for its contract alone: nothing is found of what is merged of files of which nothing is found, and a file
-    // has one list of findings
+    // each for its contract alone: the merged file of files without findings has no findings, and a file has only one
+    // list of findings
     findings_of_merges();
     finding_laws();
     let found_first = found_in(alloc, first)?;

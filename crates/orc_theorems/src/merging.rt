@@ -1,12 +1,12 @@
-//! The merge theorem: what files are that were joined in groups. `merge_theorem` does nothing: its contract is the
+//! The merge theorem: what a file is that was merged in groups. `merge_theorem` does nothing: its contract is the
 //! statement.
 //!
-//! `IsMerge files tail out` says that `out` is the merged file of the files, with this tail. `WroteMerge files tail
-//! old new` is what `merge` promises where it answers Ok: `tail` is what it answered, and behind what the output had
-//! told, `old`, it tells their merged file, which has fewer than 2^64 bytes. A grouping (`Groups`) is an ordered tree
-//! with files at its leaves, and each inner node stands for a call of `merge` on what the nodes below it gave, in
-//! their order. `Wrote (merge groups) out` says that each of these calls answered Ok, and that the last one wrote
-//! `out`.
+//! `IsMerge files tail out` says that `out` is the merged file of the files and `tail` its tail. `WroteMerge files
+//! tail old new` is what `merge` promises if it succeeds: it returned `tail`, and the output's bytes, which were
+//! `old` before, are `new`, which is `old` followed by the merged file of fewer than 2^64 bytes. A grouping
+//! (`Groups`) is an ordered tree with files at its leaves. Each inner node stands for a call of `merge` on the files
+//! that its children gave, in order. `Wrote (merge groups) out` says that each of these calls succeeded, and that the
+//! last one wrote `out`.
 ghost use Rattle.std.specs.Prelude.{◌≡◌, ◌↔◌, ◌&&◌, ◌<◌, ◌^◌, ℕ, List, Option, Some, length, slice_get, IsPermutation};
 ghost use Rattle.orc_values.specs.Cells.{Cell};
 ghost use Rattle.orc_values.specs.Shapes.{width};
@@ -26,14 +26,15 @@ use orc_file_reader::row_laws;
 use orc_merge_laws::{grouping, orders, outcomes};
 use orc_tail::tail_laws;
 
-/// Files that are joined in groups become the file that they become at once: the same bytes, in whatever groups,
-/// which have all the files' rows in order. Its statistics are the same for every order of the files, and are those
-/// of all rows where those of the files' stripes are. For user metadata or a limit joining at once is refused exactly
-/// where some step of a grouping is.
+/// Files that are merged in groups, however they are grouped, become the same bytes as by one merge of all. These
+/// have all the files' rows, in order. The file statistics are the same for every order of the files, and are those
+/// of all rows if the statistics of the files' stripes are those of their rows. One merge of all is refused for user
+/// metadata or a limit if and only if some step of the grouping is.
 ///
-/// Each conclusion has the premises that it needs, and no more. That the files open and agree is none: where their
-/// merges answer Ok, they do. That statistics are right is asked where they are spoken of, and that there are rows
-/// where rows are. What is said of a merged file holds of what each grouping wrote, by the clause `merged`.
+/// Each conclusion has only the premises that it needs. That the files open and agree is no premise, because it
+/// follows if their merges succeed. That statistics are right is a premise only of clauses about statistics, and that
+/// files have rows only of clauses about rows. What is said of a merged file holds for the file that any grouping
+/// wrote, by the clause `merged`.
 pub fn merge_theorem()
     // If each merge of a grouping wrote its file, and one merge of all files of the grouping succeeded, then
     // this one merge wrote the same bytes as the grouping.
@@ -100,9 +101,9 @@ pub fn merge_theorem()
         → (each_file_has_rows_and_their_statistics : AreHonestFiles files parts)
         → Honest tail (rows_together parts) × HasWholeStats tail (rows_together parts) }
     // If a merged file has fewer than 2^64 bytes, and the stripe statistics of each input are those of its rows
-    // (element counts may be missing), then the merged tail has a file statistic of each column, which has a
-    // sum if and only if the sum of each stripe with values and the sum of all rows fit 64 bits. A statistic of
-    // a kind without sums counts as having one.
+    // (element counts may be missing), then the merged tail has a file statistic of each column. This has a sum if
+    // and only if the column has a value, and the sum of each stripe with values and the sum of all rows fit 64 bits.
+    // A statistic of a kind without sums counts as having one.
     ensures sums { (files : List (List ℕ)) (tail : Tail) (out : List ℕ) (parts : List (List Cell)) (column : ℕ)
         → (it_is_their_merge : IsMerge files tail out)
         → (it_has_fewer_than_2_64_bytes : length out < 2 ^ 64)
@@ -113,10 +114,10 @@ pub fn merge_theorem()
         ≡ (each_sum_fits tail.schema (cut_rows tail.stripes (rows_together parts)) column
         && has_sum (column_stat tail.schema (rows_together parts) column).body)) }
 
-    // If the files of a grouping have one schema, version, writer, writer version, stride and other footer
-    // fields, and all stripe statistics, and each file that a step below the root gives has fewer than 2^64
-    // bytes, then one merge of all these files is refused with `UserMetadataConflict` or `Limit` if and only if
-    // some step of the grouping is.
+    // If the files of a grouping open, and have one schema, version, writer, writer version, stride and other footer
+    // fields and a statistic of each column of each stripe, and each file that a step below the root gives has fewer
+    // than 2^64 bytes, then one merge of all these files is refused with `UserMetadataConflict` or `Limit` if and
+    // only if some step of the grouping is.
     ensures refused { (groups : Groups)
         → (steps_below_give_fewer_than_2_64_bytes : AllShort groups)
         → (files_open_and_agree : AreFellows (all_leaves groups))

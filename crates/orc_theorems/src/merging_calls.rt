@@ -1,4 +1,4 @@
-//! Callers over the merge theorem. Each makes merges that the theorem speaks of, and its contract is what the theorem
+//! Callers of `merge_theorem`. Each makes merges that the theorem speaks of, and its contract says what the theorem
 //! says of them.
 ghost use Rattle.std.specs.Prelude.{◌≡◌, ◌↔◌, ◌<◌, ◌⊎◌, ◌&&◌, ◌++◌, ◌∷◌, [], ℕ, List, Some, Ok, Err, map, slice_get, IsTrue, IfOk, IfErr};
 ghost use Rattle.orc_values.specs.Cells.{Cell};
@@ -27,7 +27,7 @@ use orc_merger::{MergeFault, merge};
 use orc_tail::Tail;
 use std::alloc::Global;
 
-/// Merges files into memory.
+/// Merges files and returns the merged file's bytes.
 fn merge_in_memory<S: Source>(alloc: Global, inputs: &mut [S]) -> Result<Vec<u8>, MergeFault>
     ensures merged { IfOk result (λ bytes. (xs : List (List ℕ))
         → map S.told inputs.old ≡ map Some xs
@@ -43,19 +43,21 @@ fn merge_in_memory<S: Source>(alloc: Global, inputs: &mut [S]) -> Result<Vec<u8>
     }
 }
 
-/// Merges each of two lists of files into memory, and then the two that this gave. What goes out is the merged file
-/// of all of them, and its tail is answered, by the clause `answered`.
+/// Merges each of two lists of files into memory, and then the two merged files into `out`. This writes the merged
+/// file of all files and returns its tail, by clause `answered` of `merge_theorem`.
 ///
-/// Refusals: those of `merge`, of one of its three calls.
+/// # Errors
+///
+/// Fails if one of its three calls of `merge` fails.
 pub fn in_two_steps<S: Source, W: Sink>(
     alloc: Global,
     left: &mut [S],
     right: &mut [S],
     out: &mut W,
 ) -> Result<Tail, MergeFault>
-    // If merging succeeds and all sources' bytes are known, then the files of `left` followed by those of
-    // `right` have a merged file of fewer than 2^64 bytes, and its tail is returned. The output has got exactly
-    // this file if the output's bytes are known.
+    // If merging succeeds and all sources' bytes are known, then the files of `left` followed by those of `right`
+    // have a merged file of fewer than 2^64 bytes, and its tail is returned. The output has got exactly this file if
+    // the output's bytes are known.
     ensures merged { IfOk result (λ tail. (xs ys : List (List ℕ))
         → map S.told left.old ≡ map Some xs
         → map S.told right.old ≡ map Some ys
@@ -77,11 +79,13 @@ pub fn in_two_steps<S: Source, W: Sink>(
     merge(alloc, &mut both, out)
 }
 
-/// Joins the first two of three files, and then what that gave with the third. What comes out is what joining all
-/// three at once gives; and where this is refused for user metadata or a limit, so is that, by the clauses `answered`
-/// and `refused`.
+/// Joins the first two of three files, and then joins the result with the third. The result is that of one merge of
+/// all three, by clause `answered` of `merge_theorem`. If this fails for user metadata or a limit, then one merge of
+/// all three does too, by its clause `refused`.
 ///
-/// Refusals: those of `merge`, of one of its two calls.
+/// # Errors
+///
+/// Fails if one of its two calls of `merge` fails.
 pub fn join_in_steps(
     alloc: Global,
     first: &[u8],
@@ -95,17 +99,18 @@ pub fn join_in_steps(
     // this order, which has fewer than 2^64 bytes, and the returned tail is its tail.
     ensures merged { IfOk result (λ done.
         WroteMerge (first.now ∷ second.now ∷ third.now ∷ []) done.tail (Some []) (Some done.bytes.items)) }
-    // If the error is `UserMetadataConflict` or `Limit`, and the three inputs are files with one schema,
-    // version, writer, writer version, stride and other footer fields, and with all stripe statistics, then one
+    // If the error is `UserMetadataConflict` or `Limit`, and the three inputs open and have one schema, version,
+    // writer, writer version, stride and other footer fields and a statistic of each column of each stripe, then one
     // merge of the three files is refused with `UserMetadataConflict` or `Limit`, too.
     ensures refused { IfErr result (λ e. ComesOfJoining e
         → AreFellows (first.now ∷ second.now ∷ third.now ∷ [])
         → (fault : MergeFault) × ComesOfJoining fault × IsMergeRefused (first.now ∷ second.now ∷ third.now ∷ []) fault) }
-    // An error is `SourceFailed`, `WriteFailed`, `OutOfMemory`, or the first fault of the inputs of one of the
-    // two merges.
+    // An error is `SourceFailed`, `WriteFailed`, `OutOfMemory`, or the first fault of the inputs of one of the two
+    // merges: that of `first` and `second`, and that of what this wrote and `third`.
     ensures step { IfErr result (IsStepAnswer (first_two first.now second.now third.now)) }
 {
-    // for its contract alone: a grouping is refused just where the merge of all its files is
+    // for its contract alone: user metadata or a limit refuses a step of a grouping if and only if it refuses one
+    // merge of all files
     merge_theorem();
     match join_two(alloc, first, second) {
         Ok(front) => join_two(alloc, &front.bytes, third),
@@ -113,7 +118,7 @@ pub fn join_in_steps(
     }
 }
 
-/// Joins the last two of three files, and then the first with what that gave.
+/// Joins the last two of three files, and then joins the first with the result.
 fn join_from_the_last(
     alloc: Global,
     first: &[u8],
@@ -129,7 +134,7 @@ fn join_from_the_last(
     }
 }
 
-/// Whether a join gave these bytes. A refusal is the join's.
+/// Returns whether a join gave these bytes. Fails if the join failed.
 fn gave(joined: Result<FileInMemory, MergeFault>, bytes: &[u8]) -> Result<bool, MergeFault>
     ensures gave { IfOk result (λ same. (done : FileInMemory) × (joined ≡ Ok done)
         × (IsTrue same ↔ (done.bytes.items ≡ bytes.now))) }
@@ -141,7 +146,7 @@ fn gave(joined: Result<FileInMemory, MergeFault>, bytes: &[u8]) -> Result<bool, 
     }
 }
 
-/// Joins three files in both groupings: whether each gave these bytes.
+/// Joins three files in both groupings. Returns whether each gave these bytes.
 fn both_gave(
     alloc: Global,
     first: &[u8],
@@ -161,12 +166,16 @@ fn both_gave(
     Ok(left && right)
 }
 
-/// Joins three files at once and in both groupings: the first two and then the third, and the last two and then the
-/// first. Answers what joining them at once gave, and whether each grouping gave the same bytes: that they did is the
-/// clause `alike`, that every grouping does `given`, and what is said of the file are the clauses `opens`, `rows`,
-/// `statistics` and `sums`.
+/// Joins three files by one merge and in both groupings: the first two and then the third, and the first with the
+/// result of the last two. Returns the file that the one merge gave, and whether each grouping gave the same bytes.
 ///
-/// Refusals: those of `merge`, of one of its five calls.
+/// That the two groupings gave the same bytes follows from clause `alike` of `merge_theorem`, and that every grouping
+/// does from its clause `given`. What is promised of the file are its clauses `opens`, `rows`, `statistics` and
+/// `sums`.
+///
+/// # Errors
+///
+/// Fails if one of its five calls of `merge` fails.
 pub fn join_in_groupings(
     alloc: Global,
     first: &[u8],
@@ -177,22 +186,22 @@ pub fn join_in_groupings(
     // this order, which has fewer than 2^64 bytes, and the returned tail is its tail.
     ensures merged { IfOk result (λ done.
         WroteMerge (first.now ∷ second.now ∷ third.now ∷ []) done.0.tail (Some []) (Some done.0.bytes.items)) }
-    // If joining succeeds, then `true` is returned beside the file: each grouping gave the same bytes as one
-    // merge.
+    // If joining succeeds, then `true` is returned beside the file: each of the two groupings gave the same bytes as
+    // one merge of the three files.
     ensures same { IfOk result (λ done. IsTrue done.1) }
-    // If joining succeeds, then both groupings wrote the returned bytes: the first two files and then the
-    // third, and the first file with what the last two gave.
+    // If joining succeeds, then two groupings wrote the returned bytes: the merge of what the first two files gave
+    // with the third file, and the merge of the first file with what the last two gave.
     ensures grouped { IfOk result (λ done. Wrote (first_two first.now second.now third.now) done.0.bytes.items
         × Wrote (last_two first.now second.now third.now) done.0.bytes.items) }
-    // If joining succeeds, and each file that a step below the root of some grouping of the three files gives
-    // has fewer than 2^64 bytes, then this grouping gives the returned bytes and no others.
+    // If joining succeeds, and each file that a step below the root of some grouping of the three files, in this
+    // order, gives has fewer than 2^64 bytes, then this grouping gives the returned bytes and no others.
     ensures given { IfOk result (λ done. (groups : Groups) (out : List ℕ) → AllShort groups
         → all_leaves groups ≡ first.now ∷ second.now ∷ third.now ∷ []
         → Gives (grouping.merge groups) out ↔ (out ≡ done.0.bytes.items)) }
     // If joining succeeds, then the returned file opens with the returned tail.
     ensures opens { IfOk result (λ done. IsTail done.0.bytes.items done.0.tail) }
-    // If joining succeeds and each of the three files has rows, then the returned file has the returned tail
-    // and the rows of the three files, in order.
+    // If joining succeeds, and each of the three files is a file with rows, then the returned file has the returned
+    // tail and the rows of the three files, in order.
     ensures rows { IfOk result (λ done. (parts : List (List Cell))
         → HaveRows (first.now ∷ second.now ∷ third.now ∷ []) parts
         → FileIs done.0.bytes.items done.0.tail (rows.rows_together parts)) }
@@ -204,10 +213,10 @@ pub fn join_in_groupings(
     ensures statistics { IfOk result (λ done. (parts : List (List Cell))
         → AreHonestFiles (first.now ∷ second.now ∷ third.now ∷ []) parts
         → Honest done.0.tail (rows.rows_together parts) × HasWholeStats done.0.tail (rows.rows_together parts)) }
-    // If joining succeeds, and the stripe statistics of each of the three files are those of its rows (element
-    // counts may be missing), then the returned tail has a file statistic of each column, which has a sum if
-    // and only if the sum of each stripe with values and the sum of all rows fit 64 bits. A statistic of a kind
-    // without sums counts as having one.
+    // If joining succeeds, and the stripe statistics of each of the three files are those of its rows (element counts
+    // may be missing), then the returned tail has a file statistic of each column. This has a sum if and only if the
+    // column has a value, and the sum of each stripe with values and the sum of all rows fit 64 bits. A statistic of
+    // a kind without sums counts as having one.
     ensures sums { IfOk result (λ done. (parts : List (List Cell)) (column : ℕ)
         → AreHonestFiles (first.now ∷ second.now ∷ third.now ∷ []) parts
         → column < width done.0.tail.schema
@@ -216,30 +225,32 @@ pub fn join_in_groupings(
         ≡ (each_sum_fits done.0.tail.schema (cut_rows done.0.tail.stripes (rows.rows_together parts)) column
         && has_sum (column_stat done.0.tail.schema (rows.rows_together parts) column).body))) }
     // An error is `SourceFailed`, `WriteFailed`, `OutOfMemory`, or the first fault of the inputs of one of the
-    // merges: those of the two groupings, and the one of all three files.
+    // merges: those of the two groupings, and the one merge of all three files.
     ensures refused { IfErr result (λ e. IsStepAnswer (first_two first.now second.now third.now) e
         ⊎ (IsStepAnswer (last_two first.now second.now third.now) e
         ⊎ IsStepAnswer (at_once first.now second.now third.now) e)) }
 {
-    // for its contract alone: in whatever groups files are joined, the same bytes are written
+    // for its contract alone: however files are grouped, the same bytes are written
     merge_theorem();
     let joined = join_three(alloc, first, second, third)?;
     let same = both_gave(alloc, first, second, third, &joined.bytes)?;
     Ok((joined, same))
 }
 
-/// Joins two files in both orders. The two files that this gives have the same statistics of the whole file, by the
-/// clause `order`; and where the first can be joined with the second, neither call is refused for anything of theirs, by
-/// the clause `orders`.
+/// Joins two files in both orders. The two joined files have the same file statistics, by clause `order` of
+/// `merge_theorem`. If the files can be joined in the first order, then neither call fails for a fault of the files,
+/// by its clause `orders`.
 ///
-/// Refusals: those of `merge`, of one of its two calls.
+/// # Errors
+///
+/// Fails if one of its two calls of `merge` fails.
 pub fn join_in_orders(
     alloc: Global,
     first: &[u8],
     second: &[u8],
 ) -> Result<(FileInMemory, FileInMemory), MergeFault>
-    // If joining succeeds, then the two returned files are the merged file of `first` and `second` and that of
-    // `second` and `first`, each with its tail and with fewer than 2^64 bytes.
+    // If joining succeeds, then the first returned file is the merged file of `first` and `second`, and the second
+    // that of `second` and `first`, each with its tail and with fewer than 2^64 bytes.
     ensures one { IfOk result (λ done.
         WroteMerge (first.now ∷ second.now ∷ []) done.0.tail (Some []) (Some done.0.bytes.items)) }
     ensures other { IfOk result (λ done.
@@ -255,7 +266,7 @@ pub fn join_in_orders(
     ensures only { IfErr result (λ e. (tail : Tail) (out : List ℕ)
         → IsMerge (first.now ∷ second.now ∷ []) tail out → IsDeviceFault e) }
 {
-    // for its contract alone: in whatever order files are joined, the file's statistics are the same
+    // for its contract alone: the file statistics are the same in every order of the files
     merge_theorem();
     let one = join_two(alloc, first, second)?;
     let other = join_two(alloc, second, first)?;

@@ -1,5 +1,4 @@
-//! The laws of reading from the middle of files in which nothing is found. The function does nothing: its contract
-//! is what it is for.
+//! Laws of printing files without findings from a group on. `place_laws` does nothing: its contract is the statement.
 ghost use Rattle.std.specs.Prelude.{◌≡◌, ℕ, List, [], Option, drop};
 ghost use Rattle.orc_values.specs.Cells.{Cell};
 ghost use Rattle.orc_file_reader.specs.FileRows.{FileIs};
@@ -13,9 +12,9 @@ ghost use Rattle.orc_theorems.specs.Places.{IsPlace, rows_before};
 
 use orc_check::start_laws;
 
-/// Where nothing is found of a file, the lines that are printed from a group of a stripe on are those of the file's
-/// rows from the group's first one on; and where the group is there and the rows have JSON, printing them is refused
-/// for nothing that is the file's.
+/// If a file has no findings, then the lines that are printed from a group of a stripe on are those of the file's
+/// rows from the group's first row on. If the group exists and the rows have JSON, then no fault of the file can stop
+/// printing them.
 pub fn place_laws()
     // If a file with rows has no findings, then lines that are printed of it from a group of a stripe on are
     // those of the file's rows from the group's first row on.
@@ -23,7 +22,7 @@ pub fn place_laws()
         → FileIs bytes tail rows → Findings bytes tail rows []
         → AreLinesFromGroup bytes tail stripe group lines
         → lines ≡ row_lines tail.schema (drop (rows_before tail stripe group) rows) }
-    // If a file with rows has no findings, the stripe has the group, and the rows have JSON, then printing the
+    // If a file with rows has no findings, one of its stripes has a group, and the rows have JSON, then printing the
     // file from this group on fails only with `WriteFailed`, `SourceFailed` or `OutOfMemory`.
     ensures only { (bytes : List ℕ) (tail : Tail) (rows : List Cell) (stripe group : ℕ)
         (old new : Option (List ℕ)) (fault : CliFault)
@@ -31,6 +30,6 @@ pub fn place_laws()
         → IsPlace tail stripe group → HaveJson tail.schema rows
         → EndsFrom bytes tail stripe group old new fault → IsOutsideFile fault }
 {
-    // for its contract alone: a file of which nothing is found starts at each of its groups
+    // for its contract alone: the stripes of a file without findings start at each of their groups
     start_laws();
 }

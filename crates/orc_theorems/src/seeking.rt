@@ -1,4 +1,4 @@
-//! A column's streams, sought at the positions of an entry of its row index.
+//! Goes to the positions of a row index entry in a column's streams.
 ghost use Rattle.std.specs.Prelude.{◌≡◌, ◌≤◌, ◌∷◌, ◌++◌, ℕ, List, [], IfOk, IfSome};
 ghost use Rattle.orc_values.specs.Cells.{Cell};
 ghost use Rattle.orc_values.specs.Shapes.{Shape};
@@ -13,25 +13,26 @@ ghost use Rattle.orc_theorems.specs.RunsRead.{runs_read, ReadOneEach};
 use orc_rle::{BitPos, BitRuns, ByteRuns, Pos, Rle, Run, RunCodec, RunFault, RunU8, Sign, V1, V2};
 use orc_row_index::{PlacedStreams, RunBytes};
 
-/// What a position of a stream leads to: what is left of the run that was read last, if any was.
+/// What a position of a stream leads to: the rest of the run that was decoded last, if one was.
 #[derive(Drop)]
 pub enum Sought {
-    /// There is no such stream.
+    /// The column has no such stream.
     Nothing,
-    /// A run of bytes, each of which has eight booleans in a stream of these.
+    /// A run of bytes. In a stream of booleans each byte has eight of them.
     Bytes(RunU8),
     /// A run of integers.
     Numbers(Run),
 }
 
-/// What the positions of a column lead to: in PRESENT, and in the stream of runs beside it.
+/// What a column's positions lead to: in its PRESENT stream, and in its other stream of runs.
 #[derive(Drop)]
 pub struct ColumnSought {
     pub present: Sought,
     pub own: Sought,
 }
 
-/// A position of bytes or integers, where the numbers are one.
+/// Returns the position in a stream of bytes or integers that two numbers give, and `None` for any other count of
+/// numbers.
 fn pos_of(positions: &[u64]) -> Option<Pos>
     ensures { IfSome result (λ pos. positions.now ≡ pos.offset ∷ pos.skip ∷ []) }
 {
@@ -44,7 +45,7 @@ fn pos_of(positions: &[u64]) -> Option<Pos>
     }
 }
 
-/// A position of booleans, where the numbers are one.
+/// Returns the position in a stream of booleans that three numbers give, and `None` for any other count of numbers.
 fn bit_pos_of(positions: &[u64]) -> Option<BitPos>
     ensures { IfSome result (λ pos. positions.now ≡ pos.offset ∷ pos.skip ∷ pos.bits ∷ []) }
 {
@@ -58,7 +59,7 @@ fn bit_pos_of(positions: &[u64]) -> Option<BitPos>
     }
 }
 
-/// Goes to a position of integers, whatever the version.
+/// Goes to a position in a stream of integers of either version.
 fn seek_version(
     version: Rle,
     sign: Sign,
@@ -74,7 +75,7 @@ fn seek_version(
     }
 }
 
-/// Goes to a position of a stream of integers.
+/// Goes to a position in a stream of integers.
 fn seek_numbers(
     version: Rle,
     sign: Sign,
@@ -94,7 +95,7 @@ fn seek_numbers(
     }
 }
 
-/// Goes to a position of a stream of bytes.
+/// Goes to a position in a stream of bytes.
 fn seek_bytes(bytes: &[u8], positions: &[u64]) -> Result<Sought, RunFault>
     ensures { (n : ℕ) → IsOneRunPosition (byte_runs bytes.now) n positions.now
         → IfOk result (λ sought. runs_read sought ≤ 1) }
@@ -109,7 +110,7 @@ fn seek_bytes(bytes: &[u8], positions: &[u64]) -> Result<Sought, RunFault>
     }
 }
 
-/// Goes to a position of a stream of booleans.
+/// Goes to a position in a stream of booleans.
 fn seek_bits(bytes: &[u8], positions: &[u64]) -> Result<Sought, RunFault>
     ensures { (n : ℕ) → IsOneRunPosition (bit_runs bytes.now) n positions.now
         → IfOk result (λ sought. runs_read sought ≤ 1) }
@@ -124,7 +125,7 @@ fn seek_bits(bytes: &[u8], positions: &[u64]) -> Result<Sought, RunFault>
     }
 }
 
-/// Goes to a position of a stream, whatever its runs are of.
+/// Goes to a position in a stream of integers, bytes or booleans.
 fn seek_stream(stream: &RunBytes<'_>, positions: &[u64]) -> Result<Sought, RunFault>
     ensures { (n : ℕ) → IsOneRunPosition (runs stream.now) n positions.now
         → IfOk result (λ sought. runs_read sought ≤ 1) }
@@ -137,7 +138,8 @@ fn seek_stream(stream: &RunBytes<'_>, positions: &[u64]) -> Result<Sought, RunFa
     }
 }
 
-/// The positions behind that of bytes as they are, where a column has such.
+/// Returns the positions after that of the column's stream of plain bytes, if it has one, and all positions
+/// otherwise.
 fn behind_octets<'p>(content: Option<&[u8]>, positions: &'p [u64]) -> &'p [u64]
     ensures { (n : ℕ) (last : List ℕ) → positions.now ≡ octets_position (lent_bytes content.entry) n ++ last
         → result.now ≡ last }
@@ -151,9 +153,11 @@ fn behind_octets<'p>(content: Option<&[u8]>, positions: &'p [u64]) -> &'p [u64]
     }
 }
 
-/// Goes to the positions of an entry, in each of a column's streams of runs.
+/// Goes to the positions of a row index entry in each of a column's streams of runs.
 ///
-/// Refusals: those of `seek`, and `BadPosition` where the numbers are no positions of these streams.
+/// # Errors
+///
+/// Fails with `BadPosition` if the numbers aren't positions of these streams, or if `seek` fails.
 pub(crate) fn seek_places(
     placed: &PlacedStreams<'_>,
     positions: &[u64],

@@ -1,9 +1,10 @@
-//! What is written is read back. `written_files_read_back` does nothing: its contract is the statement.
+//! Written files read back. `written_files_read_back` does nothing: its contract is the statement.
 //!
-//! `IsWhole options schema tail first told rows` is what `Writer::finish` promises where it answers Ok: `tail` is
-//! what it answered, `rows` those that were pushed, `first` what the output had told before the writer was made, and
-//! `told` what it tells then. Its `bytes` are what was written. `OrcFile::open` finds a tail of which it says
-//! `IsTail`, `OrcFile::rows` rows of which it says `FileIs`, `check` a list of which it says `Findings`.
+//! `WroteWholeFile options schema tail first told rows` is what `Writer::finish` promises if it succeeds: `tail` is
+//! the tail that it returned, `rows` are the rows that were pushed, `first` is what the output had got before the
+//! writer was made, and `told` what it has got now. Its field `bytes` has the bytes that were written.
+//! `OrcFile::open` returns a tail for which `IsTail` holds, `OrcFile::rows` returns rows for which `FileIs` holds,
+//! and `check` returns a list for which `Findings` holds.
 ghost use Rattle.std.specs.Prelude.{◌≡◌, ◌<◌, ◌^◌, ℕ, List, [], length, Option};
 ghost use Rattle.orc_values.specs.Cells.{Cell};
 ghost use Rattle.orc_values.specs.Shapes.{Shape};
@@ -25,24 +26,23 @@ use orc_file::written_laws;
 use orc_file_reader::row_laws;
 use orc_tail::tail_laws;
 
-/// A file that is written of rows opens with the tail that `finish` answered, is read as those rows, and nothing is
-/// found of it: its statistics, those of its stripes and of the whole file, and its row indexes are those of the
-/// rows.
+/// A file that was written opens with the tail that `finish` returned and is read as the rows that were pushed. It
+/// has no findings: the statistics of its stripes and of the whole file, and its row indexes, are those of the rows.
 pub fn written_files_read_back()
     // If `finish` succeeded, then what it wrote, after what the output had before, is a file with the returned
     // tail and the rows that were pushed.
     ensures written { (options : Options) (schema : Shape) (tail : Tail) (first told : Option (List ℕ)) (rows : List Cell)
         → (finish_wrote : WroteWholeFile options schema tail first told rows)
         → (told ≡ appended first finish_wrote.bytes) × FileIs finish_wrote.bytes tail rows }
-    // If `finish` succeeded, and opening what it wrote finds a tail, then this is the tail that `finish`
-    // returned.
+    // If `finish` succeeded, and the bytes that it wrote have a tail, as opening finds it, then this tail is the one
+    // that `finish` returned.
     ensures opened { (options : Options) (schema : Shape) (tail : Tail) (first told : Option (List ℕ)) (rows : List Cell)
         (opened : Tail)
         → (finish_wrote : WroteWholeFile options schema tail first told rows)
         → (open_found : IsTail finish_wrote.bytes opened)
         → opened ≡ tail }
-    // If `finish` succeeded, and what it wrote is read as a file with some tail and rows, then these are the
-    // tail that `finish` returned and the rows that were pushed.
+    // If `finish` succeeded, and the bytes that it wrote are a file with a tail and rows, as reading finds them, then
+    // this tail is the one that `finish` returned, and these rows are those that were pushed.
     ensures read { (options : Options) (schema : Shape) (tail : Tail) (first told : Option (List ℕ)) (rows : List Cell)
         (opened : Tail) (found : List Cell)
         → (finish_wrote : WroteWholeFile options schema tail first told rows)
@@ -56,7 +56,8 @@ pub fn written_files_read_back()
         (rows : List Cell)
         → (finish_wrote : WroteWholeFile options schema tail first told rows)
         → Honest tail rows × HasWholeStats tail rows }
-    // If `finish` succeeded, and checking what it wrote finds a list of findings, then this list is empty.
+    // If `finish` succeeded, and a list is that of the findings of the bytes that it wrote, with the returned tail
+    // and the rows that were pushed, then this list is empty.
     ensures checked { (options : Options) (schema : Shape) (tail : Tail) (first told : Option (List ℕ)) (rows : List Cell)
         (found : List Finding)
         → (finish_wrote : WroteWholeFile options schema tail first told rows)
@@ -69,9 +70,9 @@ pub fn written_files_read_back()
         → (finish_wrote : WroteWholeFile options schema tail first told rows)
         → (another_finish_wrote : WroteWholeFile options schema other start end rows)
         → (other ≡ tail) × (another_finish_wrote.bytes ≡ finish_wrote.bytes) }
-    // If a call of the writer failed, and the text of the schema's types in the footer has fewer than 2^62
-    // bytes, then what was written is a prefix of a file with the schema and the first n of the rows, for some
-    // n.
+    // If the output has got a prefix of a written file of the first n rows, for some n, as after the first call of a
+    // writer that failed, and the text of the schema's types in the footer has fewer than 2^62 bytes, then it has got
+    // a prefix of a file with the schema and the first n rows, for some n.
     ensures front { (options : Options) (schema : Shape) (first told : Option (List ℕ)) (rows : List Cell)
         → (a_call_failed : IsCutOff options schema first told rows)
         → (types_have_fewer_than_2_62_bytes : length (types_text schema) < 2 ^ 62)

@@ -1,5 +1,5 @@
-//! Callers over the theorem of written files. One writes rows to an output, which may fail; the other writes them to
-//! memory, reads them back, and checks what it wrote.
+//! Callers of `written_files_read_back`. `write_to` writes rows to an output, which may fail. `write_and_read` writes
+//! rows to memory, reads them back, and checks what it wrote.
 ghost use Rattle.std.specs.Prelude.{◌≡◌, ◌<◌, ◌^◌, ◌++◌, [], ℕ, List, length, Option, Some, false, IfOk, IfErr, OnOk, IsErrOf};
 ghost use Rattle.orc_values.specs.Cells.{Cell};
 ghost use Rattle.orc_values.specs.Views.{views};
@@ -25,7 +25,7 @@ use orc_types::Schema;
 use orc_values::Row;
 use std::alloc::Global;
 
-/// A file that was written of rows, the rows that it is read as, and what is found of it.
+/// A file that was written, the rows that reading it gave, and its findings.
 #[derive(Drop)]
 pub struct ReadBack {
     pub file: FileInMemory,
@@ -33,7 +33,7 @@ pub struct ReadBack {
     pub found: Vec<Finding>,
 }
 
-/// Pushes rows to a writer.
+/// Pushes rows to a writer, in order.
 fn push_rows<W: Sink>(writer: &mut Writer<W>, rows: &[Row<'_>]) -> Result<(), FileFault>
     ensures pushed { (first : Option (List ℕ)) (before : List Cell)
         → HasPushed (progress W.told writer.old) first before
@@ -52,10 +52,12 @@ fn push_rows<W: Sink>(writer: &mut Writer<W>, rows: &[Row<'_>]) -> Result<(), Fi
     Ok(())
 }
 
-/// Writes a file of rows to an output, and answers its tail. Where the output fails, what it has got is the front of a
-/// file of some of the first rows, by the clause `front`.
+/// Writes a file of rows to an output. Returns its tail and the output. If the output fails, then it has got a prefix
+/// of a file of the first n rows, for some n, by clause `front` of `written_files_read_back`.
 ///
-/// Refusals: those of `Writer`, with the output.
+/// # Errors
+///
+/// Fails if a call of `Writer` fails. The output is returned beside the error.
 pub fn write_to<W: Sink>(
     alloc: Global,
     schema: Schema,
@@ -63,8 +65,8 @@ pub fn write_to<W: Sink>(
     rows: &[Row<'_>],
     out: W,
 ) -> Result<(Tail, W), (FileFault, W)>
-    // If the call succeeds and the output's bytes are known, then the output has got the whole file of `rows`,
-    // which has fewer than 2^64 bytes, and the file's tail is returned.
+    // If the call succeeds, then the output has got the whole file of `rows`, which has fewer than 2^64 bytes, if the
+    // output's bytes are known, and the file's tail is returned.
     ensures written { IfOk result (λ done.
         WroteWholeFile options schema done.0 (W.told out) (W.told done.1) (views rows.now)) }
     // If the error is `WriteFailed`, the output's bytes are known, and the text of the schema's types in the
@@ -74,7 +76,7 @@ pub fn write_to<W: Sink>(
         → length (types_text schema) < 2 ^ 62
         → IsFrontOfFile schema (W.told out) (W.told e.1) (views rows.now)) }
 {
-    // for its contract alone: where a call of a writer fails, the front of a file is out
+    // for its contract alone: if a call of a writer fails, the output has got a prefix of a file
     written_files_read_back();
     let mut writer = match Writer::new(alloc, schema, options, out) {
         Ok(writer) => writer,
@@ -105,7 +107,7 @@ pub(crate) fn write_rows(
     }
 }
 
-/// The rows of a file in memory.
+/// Returns the rows of a file in memory.
 fn read_rows(alloc: Global, bytes: &[u8]) -> Result<Vec<Row<'static>>, FileFault>
     ensures { IfOk result (λ rows. (tail : Tail) × FileIs bytes.now tail (views rows.items)) }
 {
@@ -115,10 +117,12 @@ fn read_rows(alloc: Global, bytes: &[u8]) -> Result<Vec<Row<'static>>, FileFault
     }
 }
 
-/// Writes a file of rows to memory, opens it and reads it, and checks it. What is read are the rows that were
-/// written, by the clause `read`, and nothing is found, by the clause `checked`.
+/// Writes a file of rows to memory, reads it back, and checks it. The rows read are those that were written, by
+/// clause `read` of `written_files_read_back`, and the file has no findings, by its clause `checked`.
 ///
-/// Refusals: those of `Writer`, of opening and reading, and of `check`.
+/// # Errors
+///
+/// Fails if a call of `Writer`, opening or reading the file, or `check` fails.
 pub fn write_and_read(
     alloc: Global,
     schema: Schema,
@@ -137,7 +141,7 @@ pub fn write_and_read(
     // If the call succeeds, then it returns no findings.
     ensures nothing { IfOk result (λ done. done.found.items ≡ []) }
 {
-    // for its contract alone: what is written is read back
+    // for its contract alone: written files read back
     written_files_read_back();
     let file = write_rows(alloc, schema, options, rows)?;
     let read = read_rows(alloc, &file.bytes)?;

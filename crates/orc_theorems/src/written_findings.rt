@@ -1,4 +1,4 @@
-//! The law of findings of files that are written. The function does nothing: its contract is what it is for.
+//! The law of findings of written files. `written_finding_laws` does nothing: its contract is the statement.
 ghost use Rattle.std.specs.Prelude.{ℕ, List, []};
 ghost use Rattle.orc_values.specs.Cells.{Cell};
 ghost use Rattle.orc_values.specs.Shapes.{Shape};
@@ -8,10 +8,10 @@ ghost use Rattle.orc_file_writer.specs.Writing.{IsWrittenFile};
 ghost use Rattle.orc_tail.specs.declared.tail.Tail.{Tail};
 ghost use Rattle.orc_check.specs.Findings.{Findings};
 
-/// Nothing is found of a file as it is written.
+/// A file that is laid out as a writer writes it has no findings.
 pub fn written_finding_laws()
-    // If bytes are laid out as a writer writes a file of some rows, with any stride, and are a file with these
-    // rows, then the file has no findings.
+    // If bytes are laid out as a writer writes a file of some rows with some tail, with any options, and are a file
+    // with this tail and these rows, then the file has no findings.
     ensures { (options : Options) (s : Shape) (tail : Tail) (bytes : List ℕ) (rows : List Cell)
         → IsWrittenFile options s tail bytes rows
         → FileIs bytes tail rows → Findings bytes tail rows [] }

@@ -1,11 +1,12 @@
-//! What reading from a writer's positions costs. `writers_positions` does nothing: its contract is the statement.
+//! How many runs are read from the positions that a writer writes. `writers_positions` does nothing: its contract is
+//! the statement.
 //!
-//! `HasWrittenIndexes bytes tail rows` says that each row index of each stripe of a file is the one that a writer
-//! writes of the column's streams and cells; `WasWritten bytes rows` that `Writer::finish` wrote the bytes, of these
-//! rows. `ReadsOneRun bytes tail rows` says what `seek` does at each position in each of a file's row indexes, as a
-//! reader finds them: the position is that of the run in which the first value of the group stands, and the count of
-//! runs that were decoded rises by one at most. `SeekCounts` is what `RunCodec::seek`, `ByteRuns::seek` and
-//! `BitRuns::seek` promise of that count.
+//! `HasWrittenIndexes bytes tail rows` says that, if the stride is above 0, each column of each stripe of a file has
+//! the row index that a writer writes from the column's streams and cells. `WasWritten bytes rows` says that
+//! `Writer::finish` wrote the bytes for these rows. `ReadsOneRun bytes tail rows` says of each position in a file's
+//! row indexes, as a reader finds them, that it names the run that holds the first value of the group, and that
+//! `seek` from there decodes at most one run. `SeekCounts` is what `RunCodec::seek`, `ByteRuns::seek` and
+//! `BitRuns::seek` promise about the count of decoded runs.
 ghost use Rattle.std.specs.Prelude.{◌<◌, ◌^◌, ℕ, List, Option, length};
 ghost use Rattle.orc_values.specs.Cells.{Cell};
 ghost use Rattle.orc_values.specs.Shapes.{Shape};
@@ -21,9 +22,9 @@ ghost use Rattle.orc_theorems.specs.OneRunPositions.{ReadsOneRun};
 use orc_file::written_laws;
 use orc_merge_laws::grouping;
 
-/// From a position in a row index of a file that was written, `seek` reads one run at most, whatever the stream is of.
-/// So it does in a file that is merged of such files, in whatever groups. It is said of a writer's indexes: those of
-/// others may be right, and name a run far in front of the value.
+/// From a position in a row index of a written file, `seek` reads at most one run, whatever the stream holds. The
+/// same holds for files that are merged of written files, in any grouping. It is said only of a writer's row indexes:
+/// those of other writers may be right and still name a run far before the value.
 pub fn writers_positions()
     // If `finish` succeeded, then what it wrote is a file with the returned tail and the rows that were pushed.
     // If its stride is above 0, each column of each stripe has the row index that a writer writes from the
@@ -53,15 +54,15 @@ pub fn writers_positions()
         → (it_is_a_file_of_the_rows : FileIs bytes tail rows)
         → (it_has_a_writers_indexes : HasWrittenIndexes bytes tail rows)
         → ReadsOneRun bytes tail rows }
-    // If `finish` succeeded, then from each position in the row indexes of what it wrote `seek` reads at most
-    // one run.
+    // If `finish` succeeded, then from each position in the row indexes of what it wrote `seek` reads at most one
+    // run, of integers, bytes or booleans.
     ensures in_files { (options : Options) (schema : Shape) (tail : Tail) (first told : Option (List ℕ))
         (rows : List Cell)
         → (finish_wrote : WroteWholeFile options schema tail first told rows)
         → ReadsOneRun finish_wrote.bytes tail rows }
-    // If each merge of a grouping wrote its file, and each file of the grouping was written by `finish`, then
-    // the grouping wrote a file with the rows of all these files, in order, and from each position in its row
-    // indexes `seek` reads at most one run.
+    // If each merge of a grouping wrote its file, and each file of the grouping was written by `finish`, then the
+    // grouping wrote a file with the rows of all these files, in order, and from each position in its row indexes
+    // `seek` reads at most one run, of integers, bytes or booleans.
     ensures in_merges { (groups : Groups) (out : List ℕ) (parts : List (List Cell))
         → (each_merge_wrote : Wrote (merge groups) out)
         → (each_file_was_written : WereWritten (all_leaves groups) parts)

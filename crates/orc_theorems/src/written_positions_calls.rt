@@ -1,5 +1,5 @@
-//! Callers over the theorem of positions: they go to where a group of rows begins in the streams of a column, in a
-//! file that was written of rows, and in one that two such files were joined into.
+//! Callers of `writers_positions`. They go to the start of a row group in the streams of a column: in a file that was
+//! written, and in a file that two others were joined into.
 ghost use Rattle.std.specs.Prelude.{◌≡◌, ◌<◌, ℕ, List, Some, IfOk};
 ghost use Rattle.orc_values.specs.Cells.{Cell};
 ghost use Rattle.orc_values.specs.Shapes.{width, shape_at};
@@ -29,7 +29,7 @@ use orc_types::Schema;
 use orc_values::{Row, tree_at};
 use std::alloc::Global;
 
-/// The streams of a column of a stripe that have positions.
+/// Returns the streams of a column of a stripe that have positions.
 fn streams_placed<'a>(
     alloc: Global,
     view: &StripeView<'a>,
@@ -48,7 +48,7 @@ fn streams_placed<'a>(
     Ok(placed_streams(tree_at(view.tree(), column), &streams))
 }
 
-/// Goes to a group of a column of a stripe.
+/// Goes to the start of a row group in the streams of a column of a stripe.
 fn seek_group(
     alloc: Global,
     view: &StripeView<'_>,
@@ -74,7 +74,7 @@ fn seek_group(
     }
 }
 
-/// The file in memory.
+/// Opens a file in memory.
 fn opened<'a>(alloc: Global, bytes: &'a [u8]) -> Result<OrcFile<SliceSource<'a>>, FileFault>
     ensures found { IfOk result (λ file. IsTail bytes.now file.tail) }
     ensures told { IfOk result (λ file. ⟦<SliceSource<'a> as Source>⟧.told file.source ≡ Some bytes.now) }
@@ -85,7 +85,7 @@ fn opened<'a>(alloc: Global, bytes: &'a [u8]) -> Result<OrcFile<SliceSource<'a>>
     }
 }
 
-/// Goes to where a group of rows begins in the streams of a column, in a stripe of a file.
+/// Goes to the start of a row group in the streams of a column, in a stripe of a file.
 fn seek_in_stripe<S: Source>(
     alloc: Global,
     file: &mut OrcFile<S>,
@@ -110,7 +110,7 @@ fn seek_in_stripe<S: Source>(
     }
 }
 
-/// The same, of a file in memory.
+/// Goes to the start of a row group in the streams of a column, in a stripe of a file in memory.
 fn seek_in_file(
     alloc: Global,
     bytes: &[u8],
@@ -129,11 +129,14 @@ fn seek_in_file(
     seek_in_stripe(alloc, &mut file, stripe, column, group)
 }
 
-/// Writes a file of rows to memory, opens it, and goes to where a group of rows begins in the streams of a column of a
-/// stripe. To reach it one run is read at most in each stream, by the clause `in_files`.
+/// Writes a file of rows to memory, opens it, and goes to the start of a row group in the streams of a column of a
+/// stripe. This reads at most one run in each stream, by clause `in_files` of `writers_positions`.
 ///
-/// Refusals: those of `Writer` and of opening; `BadStripe`, and of the stripe `BadPosition`, where there is no such
-/// stripe, column or group, and `NoIndex` where the stride is 0.
+/// # Errors
+///
+/// - `BadStripe` if the file has no such stripe.
+/// - `Stripe` with `NoIndex` or `BadPosition` if the stride is 0, or if the stripe has no such column or group.
+/// - Those of `Writer`, and of opening the file and loading the stripe.
 pub fn write_and_seek(
     alloc: Global,
     schema: Schema,
@@ -147,17 +150,21 @@ pub fn write_and_seek(
     // group.
     ensures one_run { IfOk result ReadOneEach }
 {
-    // for its contract alone: from a writer's positions one run is read at most
+    // for its contract alone: from a writer's positions at most one run is read
     writers_positions();
     let file = write_rows(alloc, schema, options, rows)?;
     seek_in_file(alloc, &file.bytes, stripe, column, group)
 }
 
-/// Joins two files, opens what that gave, and goes to where a group of rows begins in the streams of a column of a
-/// stripe. Where both files were written, one run is read at most in each stream, by the clause `in_merges`.
+/// Joins two files, opens the joined file, and goes to the start of a row group in the streams of a column of a
+/// stripe. If both files were written by `finish`, then this reads at most one run in each stream, by clause
+/// `in_merges` of `writers_positions`.
 ///
-/// Refusals: those of `merge` and of opening; `BadStripe`, and of the stripe `BadPosition`, where there is no such
-/// stripe, column or group, and `NoIndex` where the stride is 0.
+/// # Errors
+///
+/// - `BadStripe` if the joined file has no such stripe.
+/// - `Stripe` with `NoIndex` or `BadPosition` if the stride is 0, or if the stripe has no such column or group.
+/// - Those of `merge`, and of opening the joined file and loading the stripe.
 pub fn join_and_seek(
     alloc: Global,
     first: &[u8],
@@ -173,7 +180,7 @@ pub fn join_and_seek(
         → WasWritten second.now others
         → IfOk result ReadOneEach }
 {
-    // for its contract alone: from a writer's positions one run is read at most, in a merged file too
+    // for its contract alone: from a writer's positions at most one run is read
     writers_positions();
     match join_two(alloc, first, second) {
         Ok(joined) => match seek_in_file(alloc, &joined.bytes, stripe, column, group) {
