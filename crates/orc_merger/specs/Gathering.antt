@@ -1,4 +1,4 @@
--- What is gathered of the inputs, one after the other.
+-- What is gathered from the inputs, one after the other (own).
 use Rattle.std.specs.Prelude.{◌≡◌, ℕ, ◌+◌, List, [], ◌∷◌, ◌++◌, map}
 use Rattle.orc_wire.specs.declared.stripe_info.StripeInfo.{StripeInfo}
 use Rattle.orc_wire.specs.declared.footer.UserMetadataItem.{UserMetadataItem}
@@ -14,29 +14,29 @@ use Rattle.orc_merger.specs.Merging.{Agree, distinct, all_pairs, merged, SameVer
 use Rattle.orc_merger.specs.Faults.{Tested}
 use Rattle.orc_merger.specs.PairPlaces.{ArePairPlaces}
 
--- where the stripes of the input with that number stand in it
+-- where the stripes of the input with that number are in it
 abbrev pub pieces_in : ℕ → List StripeInfo → List Piece
 pieces_in i stripes = map (λ (s : StripeInfo). record { input = i; offset = s.offset; len = stripe_length s }) stripes
 
--- where those of the inputs from the one with that number on stand
+-- where the stripes of the inputs are, from the input with that number on
 abbrev pub pieces_of : ℕ → List Tail → List Piece
 pieces_of i [] = []
 pieces_of i (t ∷ ts) = pieces_in i t.stripes ++ pieces_of (i + 1) ts
 
--- each pair whose name is new, of pairs that agree; each is found by its name
+-- the first pair of each name, of pairs that agree; each is found by its name
 pub record HasPairs (all : List UserMetadataItem) (kept : UserPairs) : Type 0 where
   pub agree : Agree all
   pub kept_are : kept.pairs.items ≡ distinct all
   pub places : ArePairPlaces kept.pairs.items kept.places
 
--- of one schema, version and stride, with the same other footer fields
+-- a tail with the schema, version, stride and other footer fields of the first
 pub record IsOfKind (first tail : Tail) : Type 0 where
   pub schema : tail.schema ≡ first.schema
   pub version : SameVersion first tail
   pub stride : tail.stride ≡ first.stride
   pub other : tail.other ≡ first.other
 
--- the first of those that differs
+-- the first of schema, version, stride and other footer fields that differs from the first tail's
 abbrev pub KindFault : ℕ → Tail → Tail → MergeFault → Type 0
 KindFault i first tail fault =
     Tested (tail.schema ≡ first.schema) (SchemaDiffers i) fault (
@@ -44,13 +44,13 @@ KindFault i first tail fault =
     Tested (tail.stride ≡ first.stride) (StrideDiffers i) fault (
     Tested (tail.other ≡ first.other) (OtherFooterFields i) fault ⊥)))
 
--- the tests of the next input that ask of all of them together, after those of its kind
+-- the tests of the next input that concern all inputs together, after those that compare it with the first
 abbrev pub NextJoinFault : ℕ → Tail → Tail → List Tail → MergeFault → Type 0
 NextJoinFault i first tail all fault =
     Tested (Agree (all_pairs all)) (UserMetadataConflict i) fault (
     Tested (HasStatistics tail) (NoStripeStatistics i) fault (
     Tested (IsWithinLimits (merged first all)) (Limit i) fault ⊥))
 
--- a tail without what is joined
+-- a tail without the parts that are joined
 abbrev pub without_joined : Tail → Tail
 without_joined tail = record tail { stripes = []; stripe_stats = []; user = [] }

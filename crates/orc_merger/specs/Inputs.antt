@@ -1,4 +1,4 @@
--- What stands once the first inputs, so many of them, are gathered, and what speaks of their devices.
+-- What holds once the first inputs are gathered, and what holds of failures of their sources (own).
 use Rattle.std.specs.Prelude.{◌≡◌, ℕ, ◌<◌, List, [], ◌∷◌, length, map, take, slice_index, Option, Some}
 use Rattle.std.specs.List.{AllByRecursion}
 use Rattle.orc_tail.specs.Stripes.{AllBefore}
@@ -11,20 +11,20 @@ use Rattle.orc_merger.specs.Merging.{CanMerge, AreOpened}
 use Rattle.orc_merger.specs.Faults.{IsOfBytes}
 use Rattle.orc_merger.specs.SoFar.{HasGathered}
 
--- the stripes of each of these tails end within its input, of these sizes
+-- the stripes of each tail end within its input; the inputs have these sizes
 abbrev pub EndWithinInputs : List ℕ → List Tail → Type 0
 EndWithinInputs sizes [] = Unit {0}
 EndWithinInputs [] (t ∷ ts) = ⊥
 EndWithinInputs (n ∷ sizes) (t ∷ ts) = AllBefore n t.stripes × EndWithinInputs sizes ts
 
--- the tails of the first inputs, so many of those that tell this and have these sizes, which nothing speaks against
+-- the tails of the first `number` inputs, which are within the limits; the inputs have these bytes and sizes
 pub record AreTailsOf (told : List (Option (List ℕ))) (sizes : List ℕ) (number : ℕ) (tails : List Tail) : Type 0 where
   pub many : length tails ≡ number
   pub limits : AllByRecursion IsWithinLimits tails
   pub within : EndWithinInputs sizes tails
   pub opened : (files : List (List ℕ)) → told ≡ map Some files → AreOpened (take number files) tails
 
--- the first inputs are gathered, so many of those that tell this and have these sizes
+-- the first `number` inputs, which have these bytes and sizes, are gathered
 pub record IsGatheredOf (told : List (Option (List ℕ))) (sizes : List ℕ) (number : ℕ) (g : Gathered) : Type 0 where
   pub first : Tail
   pub rest : List Tail
@@ -32,7 +32,8 @@ pub record IsGatheredOf (told : List (Option (List ℕ))) (sizes : List ℕ) (nu
   pub merges : CanMerge first (first ∷ rest)
   pub gathered : HasGathered first (first ∷ rest) g
 
--- a fault of a source comes where its count of failures rose, none is the output's, and an input's is its bytes'
+-- `SourceFailed` comes only if that source's count of failures rose, `WriteFailed` doesn't come, and the fault in
+-- `File` is one of the input's bytes
 abbrev pub CountsFailure : List ℕ → List ℕ → MergeFault → Type 0
 CountsFailure old new (File i e) = IsOfBytes e
 CountsFailure old new (SourceFailed i) = slice_index old i < slice_index new i

@@ -6,14 +6,15 @@ use Rattle.orc_tail.specs.declared.tail.Tail.{Tail}
 use Rattle.orc_merger.specs.Merging.{all_stripes, all_stats}
 use Rattle.orc_merger.specs.Counts.{column_count}
 
--- so many stripes, which end at a place, so many rows, and the values that the stripes' columns have
+-- the number of stripes, the offset at which they end, the number of rows, and the numbers of values in the columns
+-- are within the limits
 pub record AreFewTogether (stripes end rows : ℕ) (stats : List (List Stat)) : Type 0 where
   pub stripes_few : stripes ≤ most_stripes
   pub bytes_few : end ≤ 3 + most_bytes
   pub rows_few : rows ≤ most_rows
   pub values_few : (c : ℕ) → column_count c stats ≤ 2 ^ 62
 
--- the stripes, bytes, rows and values of inputs with these tails, together
+-- the stripes, bytes, rows and values of inputs with these tails, together, are within the limits
 abbrev pub AreFewInAll : List Tail → Type 0
 AreFewInAll tails =
     AreFewTogether (length (all_stripes tails)) (3 + stripes_length (all_stripes tails))

@@ -15,20 +15,20 @@ use Rattle.orc_tail.specs.declared.tail.Tail.{Tail}
 
 -- ---- user metadata
 
--- whether two pairs have one name
+-- whether two pairs have the same name
 abbrev pub same_name : UserMetadataItem → UserMetadataItem → Bool
 same_name p q = pointwise ◌==◌ p.name q.name
 
--- those of another name
+-- the pairs with another name
 abbrev pub without : UserMetadataItem → List UserMetadataItem → List UserMetadataItem
 without p pairs = filter (λ q. not (same_name p q)) pairs
 
--- each pair whose name no pair before it has
+-- the first pair of each name
 abbrev pub distinct : List UserMetadataItem → List UserMetadataItem
 distinct [] = []
 distinct (p ∷ pairs) = p ∷ without p (distinct pairs)
 
--- pairs of one name have one value
+-- pairs with the same name have the same value
 abbrev pub Agree : List UserMetadataItem → Type 0
 Agree pairs = (p q : UserMetadataItem) → Contains pairs p → Contains pairs q → p.name ≡ q.name → p.value ≡ q.value
 
@@ -41,7 +41,7 @@ pub record HasStatistics (tail : Tail) : Type 0 where
 
 -- ---- the tail
 
--- stripes one after the other from a place on, without gaps
+-- stripes moved to consecutive offsets, from a given one on
 abbrev pub placed : ℕ → List StripeInfo → List StripeInfo
 placed at [] = []
 placed at (s ∷ rest) = record s { offset = at } ∷ placed (at + stripe_length s) rest
@@ -58,8 +58,8 @@ all_stats = flat_map (λ (t : Tail). t.stripe_stats)
 abbrev pub all_pairs : List Tail → List UserMetadataItem
 all_pairs = flat_map (λ (t : Tail). t.user)
 
--- The stripes of all inputs in order, without gaps; their statistics, and for each column the joined one; each
--- pair whose name is new; the rows added; the rest as in the first.
+-- The merged tail: the stripes of all inputs in order, without gaps, with their statistics; for each column the
+-- joined statistic; the first pair of each name; the sum of the rows; and everything else as in the first input.
 abbrev pub merged : Tail → List Tail → Tail
 merged first inputs = record first {
   stripes = placed 3 (all_stripes inputs);
@@ -69,13 +69,14 @@ merged first inputs = record first {
   rows = sum_by (λ (t : Tail). t.rows) inputs;
 }
 
--- an input of the first one's version, writer and writer's version
+-- a tail with the first one's file version, writer and writer version
 pub record SameVersion (first tail : Tail) : Type 0 where
   pub version : tail.version ≡ first.version
   pub writer : tail.writer ≡ first.writer
   pub writer_version : tail.writer_version ≡ first.writer_version
 
--- of one schema, version and stride, with the same other footer fields, and statistics of each stripe and column
+-- a tail with the first one's schema, version, stride and other footer fields, and a statistic of each column of each
+-- stripe
 pub record IsLike (first tail : Tail) : Type 0 where
   pub schema : tail.schema ≡ first.schema
   pub version : SameVersion first tail
@@ -83,34 +84,35 @@ pub record IsLike (first tail : Tail) : Type 0 where
   pub other : tail.other ≡ first.other
   pub statistics : HasStatistics tail
 
--- nothing speaks against merging these
+-- inputs with these tails can be merged
 pub record CanMerge (first : Tail) (inputs : List Tail) : Type 0 where
   pub alike : AllByRecursion (IsLike first) inputs
   pub agree : Agree (all_pairs inputs)
   pub limits : IsWithinLimits (merged first inputs)
 
--- the tail of the merged file
+-- the tail of the merged file of inputs with these tails
 abbrev pub Merged : List Tail → Tail → Type 0
 Merged [] tail = ⊥
 Merged (first ∷ rest) tail = CanMerge first (first ∷ rest) × (tail ≡ merged first (first ∷ rest))
 
 -- ---- the file
 
--- the bytes of each stripe
+-- the bytes of each stripe of a file
 abbrev pub stripes_of : List ℕ → Tail → List (List ℕ)
 stripes_of bytes tail = map (λ (s : StripeInfo). stripe_bytes s bytes) tail.stripes
 
--- each input is a file with this tail
+-- each input opens with its tail in the list
 abbrev pub AreOpened : List (List ℕ) → List Tail → Type 0
 AreOpened = AllZip IsTail
 
--- the stripes of all inputs
+-- the bytes of the stripes of all inputs, in order
 abbrev pub bodies : List (List ℕ) → List Tail → List (List ℕ)
 bodies [] ts = []
 bodies (b ∷ bs) [] = []
 bodies (b ∷ bs) (t ∷ ts) = stripes_of b t ++ bodies bs ts
 
--- The merged file of these inputs, and its tail: `ORC`, the stripes as they are, and the tail's canonical text.
+-- The merged file of these inputs, and its tail: `ORC`, the unchanged bytes of the stripes, and the canonical
+-- encoding of the tail.
 pub record IsMerge (inputs : List (List ℕ)) (tail : Tail) (out : List ℕ) : Type 0 where
   pub tails : List Tail
   pub opened : AreOpened inputs tails

@@ -1,4 +1,4 @@
--- What inputs have together once they are gathered.
+-- What inputs have together once they are gathered (own).
 use Rattle.std.specs.Prelude.{◌≡◌, ℕ, ◌+◌, List, length, sum_by}
 use Rattle.std.specs.List.{AllByRecursion}
 use Rattle.orc_tail.specs.Stripes.{stripes_length}
@@ -24,7 +24,8 @@ pub record HasGathered (first : Tail) (tails : List Tail) (g : Gathered) : Type 
   pub pieces : g.pieces.items ≡ pieces_of 0 tails
   pub counts : AreCounts g.counts.items (all_stats tails)
 
--- inputs of one kind are gathered, and the next one, which has this number and is of their kind, has these lists
+-- The inputs with these tails are gathered. The next input has this number, this tail, which is like the first one,
+-- and these lists.
 pub record IsNext (first : Tail) (tails : List Tail) (tail : Tail) (number : ℕ) (lists : Lists)
     (g : Gathered) : Type 0 where
   pub number_is : number ≡ length tails

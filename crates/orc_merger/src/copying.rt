@@ -1,4 +1,4 @@
-//! Bytes go out: pieces of the inputs through one array, and what stands before and behind them.
+//! Writes the merged file: `ORC`, the inputs' stripes, which are copied through one array, and the tail.
 ghost use Rattle.std.specs.Prelude.{◌≡◌, ◌+◌, ◌<◌, ◌≤◌, ◌++◌, ℕ, List, Some, length, map, slice_index, IfErr, OnOk, IsErrOf, All};
 ghost use Rattle.std.specs.Bool.{OnTrue, OnFalse};
 ghost use Rattle.orc_io.specs.Devices.{appended};
@@ -15,10 +15,11 @@ pub(crate) enum CopyFault {
     WriteFailed,
 }
 
-/// How many bytes are held at a time.
+/// The number of bytes that are held at a time.
 const WINDOW: usize = 16_384;
 
-/// Copies `len` bytes from a place on, through one array: a read for each full array and one for the rest.
+/// Copies `len` bytes of a source, from offset `at` on, through one array: a read for each full array and one for the
+/// bytes that are left.
 fn copy_range<S: Source, W: Sink>(
     source: &mut S,
     at: u64,
@@ -55,7 +56,7 @@ fn copy_range<S: Source, W: Sink>(
     Ok(())
 }
 
-/// Where the bytes of a stripe stand: in which input, from which place on, and how many.
+/// Where the bytes of a stripe are: the number of the input, the offset in it, and the length.
 #[derive(Clone, Copy)]
 pub(crate) struct Piece {
     pub input: usize,
@@ -63,7 +64,7 @@ pub(crate) struct Piece {
     pub len: u64,
 }
 
-/// Whether the piece with this number is the last one in a row of its input's.
+/// Returns whether no piece follows the piece with this number, or one of another input.
 fn is_last_of_input(pieces: &[Piece], i: usize) -> bool
     requires { i < length pieces.now }
     ensures yes { OnTrue result (IsLastOfInput pieces.now i) }
@@ -75,8 +76,9 @@ fn is_last_of_input(pieces: &[Piece], i: usize) -> bool
     }
 }
 
-/// Copies the piece with this number. After the last one in a row of its input's, and after a refusal, the input rests:
-/// pieces stand input by input, so each input rests before the next one is read. An `Err` says which input's.
+/// Copies the piece with this number. The input rests after its last consecutive piece and after an error. The pieces
+/// of an input are consecutive, so each input rests before the next one is read. An error has the number of the
+/// input.
 fn copy_piece<S: Source, W: Sink>(
     inputs: &mut [S],
     pieces: &[Piece],
@@ -115,7 +117,7 @@ fn copy_piece<S: Source, W: Sink>(
     }
 }
 
-/// Copies the pieces, one after the other. An `Err` says which input's.
+/// Copies the pieces, in order. An error has the number of the input.
 fn copy_pieces<S: Source, W: Sink>(
     inputs: &mut [S],
     pieces: &[Piece],
@@ -143,7 +145,8 @@ fn copy_pieces<S: Source, W: Sink>(
     Ok(())
 }
 
-/// Writes `ORC`, the pieces and a text.
+/// Writes `ORC`, the pieces, and then `text`. An error has the number of the input, or 0 if the output failed while
+/// `ORC` or `text` was written.
 pub(crate) fn write_merged<S: Source, W: Sink>(
     inputs: &mut [S],
     pieces: &[Piece],

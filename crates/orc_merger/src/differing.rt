@@ -1,4 +1,4 @@
-//! Whether an input is of the first one's kind.
+//! Compares an input with the first one.
 ghost use Rattle.std.specs.Prelude.{◌≡◌, IfErr, OnOk};
 ghost use Rattle.std.specs.Bool.{OnTrue, OnFalse};
 ghost use Rattle.orc_merger.specs.Merging.{SameVersion};
@@ -8,7 +8,7 @@ use crate::fault::MergeFault;
 use orc_tail::Tail;
 use orc_types::Schema;
 
-/// Whether two schemas are equal in each part.
+/// Returns whether two schemas are equal.
 fn is_same_schema(first: &Schema, schema: &Schema) -> bool
     ensures yes { OnTrue result (schema.now ≡ first.now) }
     ensures no { OnFalse result (schema.now ≡ first.now → ⊥) }
@@ -16,7 +16,7 @@ fn is_same_schema(first: &Schema, schema: &Schema) -> bool
     schema == first
 }
 
-/// Whether two lists of bytes are equal.
+/// Returns whether two lists of bytes are equal.
 pub(crate) fn is_same(first: &[u8], bytes: &[u8]) -> bool
     ensures yes { OnTrue result (bytes.now ≡ first.now) }
     ensures no { OnFalse result (bytes.now ≡ first.now → ⊥) }
@@ -24,7 +24,7 @@ pub(crate) fn is_same(first: &[u8], bytes: &[u8]) -> bool
     bytes == first
 }
 
-/// Whether both tails name one version of the format, one writer, and one version of it.
+/// Returns whether both tails have the same file version, writer and writer version.
 fn is_same_version(first: &Tail, tail: &Tail) -> bool
     ensures yes { OnTrue result (SameVersion first.now tail.now) }
     ensures no { OnFalse result (SameVersion first.now tail.now → ⊥) }
@@ -34,8 +34,8 @@ fn is_same_version(first: &Tail, tail: &Tail) -> bool
         && tail.writer_version == first.writer_version
 }
 
-/// The first test of those that compare the input of this number with the first one which it doesn't pass: of the
-/// schema, the version, the stride and the footer's other fields.
+/// Compares the tail of the input with this number with that of the first input. Fails with the first of these that
+/// differs: `SchemaDiffers`, `VersionDiffers`, `StrideDiffers`, `OtherFooterFields`.
 pub(crate) fn compare(first: &Tail, number: usize, tail: &Tail) -> Result<(), MergeFault>
     ensures alike { OnOk result (IsOfKind first.now tail.now) }
     ensures fault { IfErr result (λ fault. KindFault number first.now tail.now fault) }

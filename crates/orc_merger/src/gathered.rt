@@ -1,4 +1,4 @@
-//! What the inputs have together.
+//! Gathers what the merged file has of all inputs.
 ghost use Rattle.std.specs.Prelude.{◌≡◌, ◌≤◌, ◌<◌, ◌+◌, ◌⊎◌, ◌++◌, ◌∷◌, [], ℕ, List, length, true, All, OnOk, IfOk, IfErr};
 ghost use Rattle.std.specs.Bool.{OnTrue, OnFalse};
 ghost use Rattle.std.specs.List.{AllByRecursion};
@@ -27,10 +27,10 @@ use orc_wire::{Items, StripeInfo, UserMetadataItem};
 use std::alloc::{AllocError, Global};
 use std::mem;
 
-/// The place behind the most bytes of stripes.
+/// The greatest offset at which a file's stripes may end.
 const LAST_PLACE: u64 = 3 + MOST_BYTES;
 
-/// What is joined of an input.
+/// The parts of an input's tail that are joined with those of other inputs.
 #[derive(Drop)]
 pub(crate) struct Lists {
     stripes: Vec<StripeInfo>,
@@ -39,7 +39,7 @@ pub(crate) struct Lists {
     rows: u64,
 }
 
-/// Takes the items out.
+/// Takes all items out of a list, which is empty then.
 fn taken<T: Drop>(alloc: Global, items: &mut Items<T>) -> Vec<T>
     ensures taken { result.items ≡ items.old }
     ensures left { items.new ≡ [] }
@@ -47,7 +47,8 @@ fn taken<T: Drop>(alloc: Global, items: &mut Items<T>) -> Vec<T>
     mem::replace(items, Items::from_vec(Vec::new(alloc))).into_vec()
 }
 
-/// Takes of a tail what is joined. It has no stripes, no statistics of stripes and no pairs then.
+/// Takes the parts that are joined out of a tail. The tail has no stripes, no stripe statistics and no user metadata
+/// then.
 pub(crate) fn take_lists(alloc: Global, tail: &mut Tail) -> Lists
     ensures lists { AreListsOf tail.old result }
     ensures left { tail.new ≡ without_joined tail.old }
@@ -60,7 +61,7 @@ pub(crate) fn take_lists(alloc: Global, tail: &mut Tail) -> Lists
     }
 }
 
-/// Whether there are statistics of so many stripes, each of so many columns.
+/// Returns whether there are statistics of `stripes` stripes, each of `columns` columns.
 fn has_statistics(stripes: usize, columns: usize, stats: &[Items<Stat>]) -> bool
     ensures yes { OnTrue result ((length stats.now ≡ stripes)
         × AllByRecursion (λ (xs : List Stat). length xs ≡ columns) stats.now) }
@@ -78,7 +79,7 @@ fn has_statistics(stripes: usize, columns: usize, stats: &[Items<Stat>]) -> bool
     true
 }
 
-/// Adds items at the end.
+/// Appends items to a vector.
 fn append<T: Drop>(items: &mut Vec<T>, more: Vec<T>) -> Result<(), AllocError>
     ensures { OnOk result (items.new.items ≡ items.old.items ++ more.items) }
 {
@@ -88,25 +89,25 @@ fn append<T: Drop>(items: &mut Vec<T>, more: Vec<T>) -> Result<(), AllocError>
     Ok(())
 }
 
-/// What the inputs so far have together.
+/// What the inputs that were added so far have together.
 #[derive(Drop)]
 pub(crate) struct Gathered {
-    /// The first input's tail, without what is joined.
+    /// The first input's tail, without the parts that are joined.
     pub first: Tail,
-    /// Where the stripes stand in the inputs.
+    /// Where the stripes are in the inputs.
     pieces: Vec<Piece>,
     stripes: Vec<StripeInfo>,
     stripe_stats: Vec<Items<Stat>>,
     user: UserPairs,
     rows: u64,
-    /// The place behind the stripes.
+    /// The offset after the last stripe in the merged file.
     end: u64,
-    /// How many values each column has.
+    /// The number of values of each column.
     counts: Vec<u64>,
 }
 
 impl Gathered {
-    /// Nothing yet, with what the merged file has of the first input.
+    /// Makes an empty `Gathered` with what the merged file has of the first input alone.
     pub fn new(alloc: Global, first: Tail) -> Gathered
         ensures { (tail : Tail) → first ≡ without_joined tail → HasGathered tail [] result }
     {
@@ -122,7 +123,7 @@ impl Gathered {
         }
     }
 
-    /// Adds stripes, rows and values, if all limits are kept; else `Limit` with the number.
+    /// Adds stripes, rows and values. Fails with `Limit(number)` if a limit is exceeded, and with `OutOfMemory`.
     fn add_stripes(
         &mut self,
         number: usize,
@@ -167,9 +168,12 @@ impl Gathered {
         Ok(())
     }
 
-    /// Adds the input with this number. What stands after a refusal is no use.
+    /// Adds the input with this number. After an error, what was gathered must not be used.
     ///
-    /// Refusals, in this order: `UserMetadataConflict`, `NoStripeStatistics`, `Limit`; and `OutOfMemory`.
+    /// # Errors
+    ///
+    /// `UserMetadataConflict`, `NoStripeStatistics` or `Limit`, the first of these tests that fails, with `number`;
+    /// or `OutOfMemory`.
     pub fn add(&mut self, alloc: Global, number: usize, lists: Lists) -> Result<(), MergeFault>
         requires end { self.old.end ≤ 3 + most_bytes }
         requires rows { self.old.rows ≤ most_rows }
@@ -200,7 +204,7 @@ impl Gathered {
         Ok(())
     }
 
-    /// The merged file's tail, and where its stripes stand in the inputs.
+    /// Returns the merged file's tail, and where its stripes are in the inputs. Fails only with `OutOfMemory`.
     pub fn finish(self, alloc: Global) -> Result<(Tail, Vec<Piece>), MergeFault>
         requires { (c : ℕ) → c < width self.first.schema
             → All (λ (s : Stat). body_is_of (kind_at self.first.schema c) s.body ≡ true)
@@ -225,7 +229,7 @@ impl Gathered {
         } = self;
         let file_stats = match file_statistics(alloc, &first.schema, &stripe_stats) {
             Ok(file_stats) => file_stats,
-            // each input was tested for too many values
+            // `add` tested each input for too many values
             Err(_) => return Err(MergeFault::OutOfMemory),
         };
         let tail = Tail {

@@ -1,4 +1,4 @@
-//! All inputs' tails are read and tested before the first byte is written.
+//! Reads and tests the tails of all inputs, before the first byte is written.
 ghost use Rattle.std.specs.Prelude.{◌≡◌, ◌+◌, ◌<◌, ◌≤◌, ◌⊎◌, ◌++◌, ℕ, List, Some, length, map, slice_index, All, IfOk, IfErr, OnOk, IfSome, IsErrOf};
 ghost use Rattle.orc_io.specs.Leaves.{LeavesSource};
 ghost use Rattle.orc_tail.specs.Layout.{magic};
@@ -21,7 +21,7 @@ use orc_io::Source;
 use orc_tail::{FileFault, Tail, read_tail};
 use std::alloc::Global;
 
-/// The tail of the input with this number, which rests then.
+/// Returns the tail of the input with this number, and lets the input rest.
 fn tail_of<S: Source>(alloc: Global, number: usize, input: &mut S) -> Result<Tail, MergeFault>
     ensures found { IfOk result (λ tail. IfSome (S.told input.old) (λ bytes. IsTail bytes tail)) }
     ensures limits { IfOk result (λ tail. IsWithinLimits tail) }
@@ -46,7 +46,7 @@ fn tail_of<S: Source>(alloc: Global, number: usize, input: &mut S) -> Result<Tai
     }
 }
 
-/// The first input, gathered.
+/// Reads the first input's tail and starts to gather with it.
 fn gather_first<S: Source>(alloc: Global, inputs: &mut [S]) -> Result<Gathered, MergeFault>
     requires { 0 < length inputs.old }
     ensures told { map S.told inputs.new ≡ map S.told inputs.old }
@@ -67,7 +67,7 @@ fn gather_first<S: Source>(alloc: Global, inputs: &mut [S]) -> Result<Gathered, 
     Ok(gathered)
 }
 
-/// Adds the input with this number to those before it.
+/// Reads the tail of the input with this number and adds it to those before it.
 fn gather_next<S: Source>(
     alloc: Global,
     inputs: &mut [S],
@@ -95,10 +95,12 @@ fn gather_next<S: Source>(
     Ok(())
 }
 
-/// The merged file's tail, and where its stripes stand in the inputs.
+/// Returns the merged file's tail, and where its stripes are in the inputs.
 ///
-/// Refusals: `NoInput`; input by input, the fault of the first test that it doesn't pass; `SourceFailed` and
-/// `OutOfMemory` may come instead.
+/// # Errors
+///
+/// `NoInput` if there is no input. Otherwise the inputs are tested one after the other, and the error is the first
+/// test that fails. Instead, `SourceFailed` may come if a source fails, and `OutOfMemory` if memory runs out.
 pub(crate) fn gather<S: Source>(
     alloc: Global,
     inputs: &mut [S],

@@ -1,4 +1,4 @@
-//! Joins files whose tails agree, stripe by stripe.
+//! Merges files into one by copying stripes and merging their tails.
 #![tactic(auto)]
 
 mod copying;

@@ -1,4 +1,4 @@
-//! The merger.
+//! The call that merges files.
 ghost use Rattle.std.specs.Prelude.{◌≡◌, ◌<◌, ℕ, List, Some, length, map, slice_index, IfOk, IfErr, OnOk, IsErrOf};
 ghost use Rattle.orc_tail.specs.declared.fault.FileFault.{FileFault};
 ghost use Rattle.orc_merger.specs.Faults.{IsDeviceFault, IsOfBytes, IsOfMerge};
@@ -11,23 +11,31 @@ use orc_io::{Sink, Source};
 use orc_tail::Tail;
 use std::alloc::Global;
 
-/// Merges files into one: the inputs' stripes as they are, and a tail that is theirs together. All tests come before
-/// the first byte is written.
+/// Merges files into one. The stripes of all inputs are copied unchanged, in order, and one tail is written for all
+/// of them. No rows are read. All inputs are tested before the first byte is written. Returns the merged file's tail.
 ///
-/// Refusals: `NoInput`; input by input, with its number, the first test that it doesn't pass: `File`, then,
-/// compared with the first input, `SchemaDiffers`, `VersionDiffers`, `StrideDiffers`, `OtherFooterFields`, and
-/// of what is gathered so far `UserMetadataConflict`, `NoStripeStatistics`, `Limit`. After those and after
-/// `OutOfMemory` nothing was written. After `SourceFailed` or `WriteFailed` nothing was written, or a part of
-/// the merged file from its front on. `File` has a fault of the input's bytes; want of memory and a source that
-/// fails are refusals of their own.
+/// # Errors
+///
+/// - `NoInput` if there is no input.
+/// - Otherwise the inputs are tested one after the other, and the error is the first test that fails, with the number
+///   of its input, counted from 0. `File` has the fault of an input that doesn't open. `SchemaDiffers`,
+///   `VersionDiffers`, `StrideDiffers` and `OtherFooterFields` come if the input differs from the first one. Then
+///   come `UserMetadataConflict` if two pairs of the inputs so far have the same name and different values,
+///   `NoStripeStatistics` if the input lacks a stripe statistic, and `Limit` if the inputs so far exceed a limit
+///   together.
+/// - `SourceFailed` if an input could not be read, and `WriteFailed` if the output failed. The output has got nothing
+///   or a prefix of the merged file then.
+/// - `OutOfMemory` if memory ran out.
+///
+/// After any error but `SourceFailed` and `WriteFailed` the output has got nothing.
 pub fn merge<S: Source, W: Sink>(
     alloc: Global,
     inputs: &mut [S],
     out: &mut W,
 ) -> Result<Tail, MergeFault>
-    // If merging succeeds and all sources' bytes are known, then the inputs have a merged file of fewer than
-    // 2^64 bytes, and its tail is returned. The output has got exactly this file if the output's bytes are
-    // known.
+    // If merging succeeds and all sources' bytes are known, then the inputs have a merged file of fewer than 2^64
+    // bytes, and its tail is returned. The output has got exactly this file, after what it had before, if the
+    // output's bytes are known.
     ensures merged { IfOk result (λ tail. (files : List (List ℕ)) → map S.told inputs.old ≡ map Some files
         → WroteMerge files tail (W.told out.old) (W.told out.new)) }
 
@@ -38,8 +46,8 @@ pub fn merge<S: Source, W: Sink>(
     // If the error is neither `SourceFailed` nor `WriteFailed` nor `OutOfMemory`, then the output's bytes are
     // unchanged if they are known.
     ensures nothing { IfErr result (λ e. (IsDeviceFault e → ⊥) → W.told out.new ≡ W.told out.old) }
-    // If merging fails and the bytes of all sources and of the output are known, then the output has got
-    // nothing or a prefix of the inputs' merged file.
+    // If merging fails, and the bytes of all sources and of the output are known, then the output has got nothing or
+    // a prefix of the inputs' merged file, after what it had before.
     ensures some { IfErr result (λ e. (files : List (List ℕ))
         → map S.told inputs.old ≡ map Some files
         → WrotePart files (W.told out.old) (W.told out.new)) }
@@ -59,9 +67,9 @@ pub fn merge<S: Source, W: Sink>(
         → slice_index (map S.failures inputs.old) i < slice_index (map S.failures inputs.new) i }
     // If the error is `File(i, why)`, then `why` is neither `OutOfMemory` nor `SourceFailed`.
     ensures file { (i : ℕ) (why : FileFault) → IsErrOf result (MergeFault.File i why) → IsOfBytes why }
-    // An error is `NoInput` if and only if there is no input. The number in an error is that of an input, and
-    // in `SchemaDiffers`, `VersionDiffers`, `StrideDiffers` and `OtherFooterFields` never that of the first
-    // input. The fault in `File` is that of a test of a tail.
+    // An error is `NoInput` if and only if there is no input. The number in an error is that of an input, and in
+    // `SchemaDiffers`, `VersionDiffers`, `StrideDiffers` and `OtherFooterFields` never that of the first input. The
+    // fault in `File` is that of a test of a tail.
     ensures named { IfErr result (λ e. IsOfMerge (length inputs.old) e) }
     // If the error is `WriteFailed`, then the output's count of failures is higher than before.
     ensures write_failed { IsErrOf result MergeFault.WriteFailed → W.failures out.old < W.failures out.new }

@@ -1,4 +1,4 @@
-//! Where stripes stand, in the inputs and in the merged file.
+//! Where stripes are in the inputs, and where they go in the merged file.
 ghost use Rattle.std.specs.Prelude.{◌≡◌, ◌+◌, ◌<◌, ◌^◌, ◌++◌, IfOk, OnOk};
 ghost use Rattle.orc_tail.specs.Stripes.{stripes_length};
 ghost use Rattle.orc_merger.specs.Merging.{placed};
@@ -9,7 +9,7 @@ use orc_tail::stripe_length;
 use orc_wire::StripeInfo;
 use std::alloc::AllocError;
 
-/// Adds stripes, which stand one after the other from a place on, and answers the place behind them.
+/// Adds stripes at consecutive offsets from `from` on, and returns the offset after the last one.
 pub(crate) fn place_stripes(
     into: &mut Vec<StripeInfo>,
     from: u64,
@@ -30,7 +30,7 @@ pub(crate) fn place_stripes(
     Ok(end)
 }
 
-/// Adds where the stripes of the input with this number stand in it.
+/// Adds where the stripes of the input with this number are in it.
 pub(crate) fn add_pieces(
     pieces: &mut Vec<Piece>,
     input: usize,

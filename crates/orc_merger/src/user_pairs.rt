@@ -1,4 +1,4 @@
-//! User metadata: each pair whose name is new.
+//! The user metadata of the merged file: one pair for each name.
 ghost use Rattle.std.specs.Prelude.{◌≡◌, ◌≢◌, ◌⊎◌, ◌++◌, ◌∷◌, [], List, IfErr, OnOk, IfSome, IfNone, Contains, All};
 ghost use Rattle.orc_wire.specs.declared.footer.UserMetadataItem.{UserMetadataItem};
 ghost use Rattle.orc_merger.specs.declared.fault.MergeFault.TheVariants as fault;
@@ -12,8 +12,8 @@ use orc_wire::UserMetadataItem;
 use std::alloc::{AllocError, Global};
 use std::collections::BTreeMap;
 
-/// Pairs of different names, in the order in which they came, and for each name the place of its pair among them. The
-/// map goes by the names' order: who chose names of one hash could make a table of hashes slow.
+/// Pairs of distinct names, in the order in which they were added, and for each name the index of its pair. The map
+/// is ordered by names: with a hash map, somebody could choose names with the same hash and make it slow.
 #[derive(Drop)]
 pub(crate) struct UserPairs {
     pairs: Vec<UserMetadataItem>,
@@ -21,7 +21,7 @@ pub(crate) struct UserPairs {
 }
 
 impl UserPairs {
-    /// No pairs.
+    /// Makes an empty list of pairs.
     pub fn new(alloc: Global) -> UserPairs
         ensures { HasPairs [] result }
     {
@@ -31,7 +31,7 @@ impl UserPairs {
         }
     }
 
-    /// The pair of this name.
+    /// Returns the pair with this name, if there is one.
     fn find(&self, name: &[u8]) -> Option<&UserMetadataItem>
         ensures found { ArePairPlaces self.now.pairs.items self.now.places → IfSome result
             (λ pair. Contains self.now.pairs.items pair.now × (pair.now.name ≡ name.now)) }
@@ -44,7 +44,7 @@ impl UserPairs {
         }
     }
 
-    /// Puts a pair, whose name is new, behind the others.
+    /// Appends a pair, whose name must be new.
     fn push(&mut self, alloc: Global, pair: UserMetadataItem) -> Result<(), AllocError>
         ensures pairs { OnOk result (self.new.pairs.items ≡ self.old.pairs.items ++ pair ∷ []) }
         ensures places { OnOk result (ArePairPlaces self.old.pairs.items self.old.places
@@ -57,7 +57,7 @@ impl UserPairs {
         Ok(())
     }
 
-    /// Adds a pair where its name is new. `UserMetadataConflict` with the number where another pair has its name and
+    /// Adds a pair if its name is new. Fails with `UserMetadataConflict(number)` if a pair with the same name has
     /// another value.
     fn add_pair(
         &mut self,
@@ -87,7 +87,8 @@ impl UserPairs {
         }
     }
 
-    /// Adds those pairs of the input with this number whose name is new.
+    /// Adds those pairs of the input with this number whose names are new. Fails with `UserMetadataConflict(number)`
+    /// if a pair with the same name as another has another value.
     pub fn add_pairs(
         &mut self,
         alloc: Global,
@@ -109,7 +110,7 @@ impl UserPairs {
         Ok(())
     }
 
-    /// The pairs, in the order in which they came.
+    /// Returns the pairs, in the order in which they were added.
     pub fn into_pairs(self) -> Vec<UserMetadataItem>
         ensures { result ≡ self.pairs }
     {
