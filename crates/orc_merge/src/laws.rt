@@ -1,3 +1,3 @@
-//! Laws of merging, in any grouping and any order, and of what is found.
+//! The laws of merging, in any grouping and any order, and of findings.
 pub use orc_check::finding_laws;
 pub use orc_merge_laws::{grouping, orders, outcomes};

@@ -1,4 +1,4 @@
-//! Files merged and checked: the calls of `orc_merger` and of `orc_check`, and the laws of `orc_merge_laws`.
+//! Merges and checks files: the calls of `orc_merger` and of `orc_check`, and the laws of `orc_merge_laws`.
 #![tactic(auto)]
 
 pub mod laws;

@@ -1,4 +1,4 @@
--- Groupings: ordered trees with inputs at the leaves, and at each inner node a merge of its children in order (own).
+-- Groupings: ordered trees with inputs at the leaves, and at each inner node a merge of its children, in order (own).
 use Rattle.std.specs.Prelude.{◌≡◌, ◌⊎◌, ℕ, ◌^◌, ◌<◌, List, [], ◌∷◌, ◌++◌, length}
 use Rattle.std.specs.List.{AllByRecursion, AllZip}
 use Rattle.orc_values.specs.Cells.{Cell}
@@ -16,12 +16,12 @@ mutual
     input : List ℕ → Group
     merge : Groups → Group
 
-  -- groups, of which there is one at least
+  -- a list of at least one group
   pub data Groups : Type 0 where
     one : Group → Groups
     and : Group → Groups → Groups
 
--- the inputs, in order
+-- the inputs of a group, in order
 abbrev mutual
   pub leaves : Group → List (List ℕ)
   leaves (input bytes) = bytes ∷ []
@@ -31,7 +31,7 @@ abbrev mutual
   all_leaves (one g) = leaves g
   all_leaves (and g gs) = leaves g ++ all_leaves gs
 
--- the file that a group gives: an input itself, or the merged file of those that its groups give
+-- the file that a group gives: an input itself, or the merged file of the files that its children give
 abbrev mutual
   pub Gives : Group → List ℕ → Type 0
   Gives (input bytes) out = out ≡ bytes
@@ -42,7 +42,7 @@ abbrev mutual
   AllGive (and g gs) files =
       (out : List ℕ) × (rest : List (List ℕ)) × Gives g out × AllGive gs rest × (files ≡ out ∷ rest)
 
--- a step of it is refused
+-- some step of a group is refused with this fault
 abbrev mutual
   pub StepRefused : Group → MergeFault → Type 0
   StepRefused (input bytes) fault = ⊥
@@ -54,7 +54,7 @@ abbrev mutual
   SomeRefused (one g) fault = StepRefused g fault
   SomeRefused (and g gs) fault = StepRefused g fault ⊎ SomeRefused gs fault
 
--- each file that a step of it gives has fewer than 2^64 bytes
+-- each file that a step of a group gives has fewer than 2^64 bytes
 abbrev mutual
   pub AreShort : Group → Type 0
   AreShort (input bytes) = Unit {0}
@@ -64,7 +64,7 @@ abbrev mutual
   AllShort (one g) = AreShort g
   AllShort (and g gs) = AreShort g × AllShort gs
 
--- the file that a group gives where each step of it wrote its file, as `merge` does: its length fits 64 bits
+-- the file that a group gives if each of its steps wrote a file of fewer than 2^64 bytes, as `merge` does
 abbrev mutual
   pub Wrote : Group → List ℕ → Type 0
   Wrote (input bytes) out = out ≡ bytes
@@ -77,32 +77,32 @@ abbrev mutual
   AllWrote (and g gs) files =
       (out : List ℕ) × (rest : List (List ℕ)) × Wrote g out × AllWrote gs rest × (files ≡ out ∷ rest)
 
--- each input is a file of these rows
+-- each input is a file with these rows
 abbrev pub HaveRows : List (List ℕ) → List (List Cell) → Type 0
 HaveRows = AllZip (λ (bytes : List ℕ) (rows : List Cell). (tail : Tail) × FileIs bytes tail rows)
 
--- and its statistics of stripes are those of the rows
+-- each input is a file with these rows, and its stripe statistics are those of the rows
 abbrev pub AreHonestFiles : List (List ℕ) → List (List Cell) → Type 0
 AreHonestFiles =
     AllZip (λ (bytes : List ℕ) (rows : List Cell). (tail : Tail) × FileIs bytes tail rows × Honest tail rows)
 
--- The inputs are files, and of one kind: user metadata and the limits alone can speak against merging them.
+-- The inputs are files that agree, so that only user metadata and limits can keep them from being merged.
 pub record AreFellows (inputs : List (List ℕ)) : Type 0 where
   pub first : Tail
   pub rest : List Tail
   pub opened : AreOpened inputs (first ∷ rest)
   pub alike : AllByRecursion (IsLike first) (first ∷ rest)
 
--- user metadata or a limit speaks against it
+-- the fault is a conflict of user metadata or a limit
 abbrev pub ComesOfJoining : MergeFault → Type 0
 ComesOfJoining (UserMetadataConflict i) = Unit {0}
 ComesOfJoining (Limit i) = Unit {0}
 ComesOfJoining _ = ⊥
 
--- the flat merge is refused for one of these
+-- one merge of all inputs is refused for user metadata or a limit
 abbrev pub IsFlatRefused : Groups → Type 0
 IsFlatRefused groups = (fault : MergeFault) × ComesOfJoining fault × IsMergeRefused (all_leaves groups) fault
 
--- some step is
+-- some step of the grouping is refused for user metadata or a limit
 abbrev pub IsStepRefused : Groups → Type 0
 IsStepRefused groups = (fault : MergeFault) × ComesOfJoining fault × StepRefused (merge groups) fault

@@ -1,5 +1,5 @@
-//! Laws of merging. Each function does nothing: its contract is what it is for. They stand over the definitions
-//! alone, and speak of whatever `merge` writes.
+//! Laws of merging. Each function does nothing: its contract is the statement. The laws are about definitions alone,
+//! and so about whatever `merge` writes.
 ghost use Rattle.std.specs.Prelude.{◌≡◌, ◌↔◌, ◌⊎◌, ◌&&◌, ◌+◌, ◌<◌, ◌^◌, ℕ, List, Option, length, take, IsPermutation};
 ghost use Rattle.std.specs.List.{AllByRecursion, list_all, flat_map};
 ghost use Rattle.orc_bits.specs.Varint.{AllBytes};
@@ -25,13 +25,13 @@ ghost use Rattle.orc_merger.specs.Faults.{AreOne, IsMergeRefused};
 ghost use Rattle.orc_merger.specs.Outcomes.{WroteMerge};
 ghost use Rattle.orc_merge_laws.specs.Grouping.{Groups, merge, all_leaves, Gives, AllShort, Wrote, AllWrote, HaveRows, AreHonestFiles, AreFellows, IsFlatRefused, IsStepRefused};
 
-/// Merging files in any grouping gives the file that merging them at once gives, and no other. It is accepted, with
-/// the merged tail, and its rows are the inputs' rows in their order. Of inputs that are files of one kind, the
-/// merge at once is refused, for user metadata or a limit, exactly where some step of a grouping is.
+/// Merging files in any grouping gives the file that one merge of all files gives, and no other. This file opens with
+/// the merged tail, and its rows are the inputs' rows, in order. If the inputs are files that agree, then one merge
+/// of all is refused for user metadata or a limit if and only if some step of a grouping is.
 ///
-/// Premise: what each step below the root writes has fewer than 2^64 bytes. What `merge` wrote step by step meets it.
-/// So where a grouping was merged step by step, all inputs can be merged at once, and two groupings of one list of
-/// inputs gave one file.
+/// The premise is that each file that a step below the root gives has fewer than 2^64 bytes. What `merge` wrote step
+/// by step meets it. So if a grouping was merged step by step, then all inputs can be merged by one merge, and two
+/// groupings of the same list of inputs gave the same file.
 pub fn grouping()
     // If the inputs of a grouping have a merged file, and each file that a step below the root gives has fewer
     // than 2^64 bytes, then the grouping gives this merged file.
@@ -50,9 +50,9 @@ pub fn grouping()
         → AllShort groups → Gives (merge groups) out
         → (tail : Tail) × IsMerge (all_leaves groups) tail out }
 
-    // If each step of a grouping below the root wrote its file, and a `merge` of these files succeeded, then
-    // the whole grouping wrote a file, and the output of that `merge` has got exactly this file if its bytes
-    // are known.
+    // If each step of a grouping below the root wrote its file, and a `merge` of the files that the root's children
+    // gave succeeded, then the whole grouping wrote a file, and the output of that `merge` has got exactly this file
+    // if its bytes are known.
     ensures step { (groups : Groups) (files : List (List ℕ)) (tail : Tail) (old new : Option (List ℕ))
         → AllWrote groups files
         → WroteMerge files tail old new → (out : List ℕ) × Wrote (merge groups) out × (new ≡ appended old out) }
@@ -76,22 +76,23 @@ pub fn grouping()
         → IsMerge inputs tail out → length out < 2 ^ 64
         → HaveRows inputs parts → FileIs out tail (rows.rows_together parts) }
 
-    // If the inputs of a grouping are files with one schema, version, writer, writer version, stride and other
-    // footer fields, and with all stripe statistics, and each file that a step below the root gives has fewer
-    // than 2^64 bytes, then one merge of all inputs is refused with `UserMetadataConflict` or `Limit` if and
-    // only if some step of the grouping is.
+    // If the inputs of a grouping open, and have one schema, version, writer, writer version, stride and other footer
+    // fields and a statistic of each column of each stripe, and each file that a step below the root gives has fewer
+    // than 2^64 bytes, then one merge of all inputs is refused with `UserMetadataConflict` or `Limit` if and only if
+    // some step of the grouping is.
     ensures refused { (groups : Groups) → AllShort groups
         → AreFellows (all_leaves groups)
         → IsFlatRefused groups ↔ IsStepRefused groups }
 {}
 
-/// Joined statistics are the same for every order of what is joined. So what can be merged can be merged in every
-/// order, and the file's statistics are the same. Where the stripes' statistics are those of their rows, the merged
-/// file's statistics are those of all rows, and a sum stands exactly where that of each stripe does and the total
-/// of all rows fits 64 bits, however little of children is told: where less of them is told no sum changes, and of a
-/// column that isn't of lists or maps nothing does.
+/// Joined statistics don't depend on the order of the statistics that are joined. So inputs that can be merged can be
+/// merged in every order, and the file statistics are the same. If the stripe statistics are those of their rows,
+/// then the merged file's statistics are those of all rows. A sum is stored if and only if there is a value, and the
+/// sum of each stripe and the sum of all rows fit 64 bits, even if element counts are missing. Missing element counts
+/// change no sum, and nothing at all in columns other than lists and maps.
 pub fn orders()
-    // If statistics are a permutation of other statistics, then joining them gives the same statistic.
+    // If a list of statistics is a permutation of another list, then joining either list as statistics of one kind
+    // gives the same statistic.
     ensures joined { (k : StatKind) (stats others : List Stat)
         → IsPermutation stats others
         → joined k others ≡ joined k stats }
@@ -105,9 +106,9 @@ pub fn orders()
         → IsPermutation inputs others → IsMerge inputs tail out
         → IsMerge others other bytes → tail.file_stats ≡ other.file_stats }
 
-    // If inputs have a merged file, and each input is a file whose stripe statistics are those of its rows,
-    // then the stripe statistics of the merged tail are those of the inputs' rows, in order. Element counts may
-    // be missing in all of them.
+    // If inputs have a merged file, and each input is a file whose stripe statistics are those of its rows (element
+    // counts may be missing), then the merged tail's stripe statistics are those of the inputs' rows, in order
+    // (element counts may be missing).
     ensures honest { (inputs : List (List ℕ)) (tail : Tail) (out : List ℕ) (parts : List (List Cell))
         → IsMerge inputs tail out
         → AreHonestFiles inputs parts → Honest tail (rows.rows_together parts) }
@@ -118,25 +119,27 @@ pub fn orders()
     ensures whole { (inputs : List (List ℕ)) (tail : Tail) (out : List ℕ) (parts : List (List Cell))
         → IsMerge inputs tail out → AreHonestFiles inputs parts
         → HasWholeStats tail (rows.rows_together parts) }
-    // The joined statistic of several stripes has a sum if and only if the sum of each stripe with values and
-    // the sum of all their rows fit 64 bits. A statistic of a kind without sums counts as having one.
+    // The statistic of a column in several stripes together has a sum if and only if the column has a value, and the
+    // sum of each stripe with values and the sum of all rows fit 64 bits. A statistic of a kind without sums counts
+    // as having one.
     ensures sum { (k : StatKind) (stripes : List (List Cell))
         → has_sum (whole k stripes).body
         ≡ (list_all (λ rows. keeps_sum (stat k rows)) stripes
         && has_sum (stat k (flat_map (λ rows. rows) stripes)).body) }
-    // Whether the joined statistic of several stripes has a sum doesn't depend on which element counts the
-    // stripes have.
+    // Whether the statistic of a column in several stripes together has a sum doesn't depend on which element counts
+    // the stripes' statistics have.
     ensures known { (k : StatKind) (stripes : List Part)
         → has_sum (known_whole k stripes).body ≡ has_sum (whole k (part_cells stripes)).body }
-    // If a statistic is not that of lists or maps, then the joined statistic of several stripes doesn't depend
-    // on which element counts the stripes have.
+    // If a column is not of lists or maps, then its statistic in several stripes together doesn't depend on which
+    // element counts the stripes' statistics have.
     ensures known_else { (k : StatKind) (stripes : List Part)
         → (k ≡ Children → ⊥) → known_whole k stripes ≡ whole k (part_cells stripes) }
 {}
 
-/// Inputs of bytes have a merged file or are refused. They have one merged file at most, and none where they are
-/// refused. One fault is the first, but that what is wrong with a file's types may be said in several ways. Where that
-/// is a limit, the inputs up to the one that it names have too many stripes, bytes, rows or values of a column together.
+/// Inputs of bytes have a merged file or are refused. They have at most one merged file, and none if they are
+/// refused. Only one fault is the first, except that a fault of a file's types may be described in several ways. If
+/// this fault is a limit, then the inputs up to the one that it names have too many stripes, bytes, rows or values of
+/// a column together.
 pub fn outcomes()
     // Inputs have at most one merged file, with one tail.
     ensures one { (inputs : List (List ℕ)) (tail other : Tail) (out bytes : List ℕ)
@@ -149,8 +152,8 @@ pub fn outcomes()
     // If inputs are refused with a fault, then they have no merged file.
     ensures none { (inputs : List (List ℕ)) (tail : Tail) (out : List ℕ) (fault : MergeFault)
         → IsMerge inputs tail out → IsMergeRefused inputs fault → ⊥ }
-    // If inputs are refused with two faults, then these are equal, or both are `File` with the same number and
-    // with `BadTypes`.
+    // If inputs are refused with two faults, then these are equal, or both are `File` with the same number and with
+    // `BadTypes`.
     ensures single { (inputs : List (List ℕ)) (e f : MergeFault)
         → IsMergeRefused inputs e → IsMergeRefused inputs f → AreOne e f }
     // If inputs are refused with `Limit(i)`, then the first i + 1 inputs are files that together exceed 65,536

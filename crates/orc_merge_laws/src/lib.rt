@@ -1,5 +1,5 @@
-//! The laws of merging, in any grouping and any order, and of what is found: their statements stand over the
-//! definitions of `orc_merger`, and over what rows a file has.
+//! The laws of merging, in any grouping and any order. Their statements rest on the definitions of `orc_merger`, and
+//! on those of the rows that a file has.
 #![tactic(auto)]
 
 mod laws;
