@@ -17,7 +17,7 @@ use Rattle.orc_cli_output.specs.declared.fault.CliFault.TheVariants as command
 use Rattle.orc_c.specs.declared.fault.Fault.{Fault}
 use Rattle.orc_c.specs.declared.fault.Fault.TheVariants.{Command, Merge, Call}
 
--- of faults of runs
+-- the numbers of faults of runs
 abbrev pub run_number : RunFault → ℕ
 run_number (run.Short _) = 1
 run_number (run.BadVarint _) = 2
@@ -31,7 +31,7 @@ run_number (run.TooMany _) = 9
 run_number (run.BadPosition _) = 10
 run_number run.OutOfMemory = 11
 
--- of faults of types
+-- the numbers of faults of types
 abbrev pub type_number : TypeFault → ℕ
 type_number (type.UnsupportedKind _) = 1
 type_number type.BadTree = 2
@@ -41,7 +41,7 @@ type_number type.RootNotStruct = 5
 type_number (type.BadText _) = 6
 type_number type.OutOfMemory = 7
 
--- of faults of JSON
+-- the numbers of faults of JSON
 abbrev pub json_number : JsonFault → ℕ
 json_number json.Syntax = 1
 json_number json.WrongShape = 2
@@ -52,7 +52,7 @@ json_number json.BadDate = 6
 json_number json.BadHex = 7
 json_number json.OutOfMemory = 8
 
--- of faults of files
+-- the numbers of faults of files
 abbrev pub file_number : FileFault → ℕ
 file_number file.NotOrc = 1
 file_number file.BadPostscript = 2
@@ -72,7 +72,7 @@ file_number file.WriteFailed = 15
 file_number file.OutOfMemory = 16
 file_number file.Failed = 17
 
--- of faults of merging
+-- the numbers of faults of merging
 abbrev pub merge_number : MergeFault → ℕ
 merge_number merge.NoInput = 1
 merge_number (merge.File _ _) = 2
@@ -87,20 +87,20 @@ merge_number (merge.SourceFailed _) = 10
 merge_number merge.WriteFailed = 11
 merge_number merge.OutOfMemory = 12
 
--- of faults of a call's arguments
+-- the numbers of faults of a call's arguments
 abbrev pub call_number : CallFault → ℕ
 call_number call.BadLengths = 1
 call_number call.BadOptions = 2
 call_number call.NotUtf8 = 3
 
--- of a command's fault
+-- the number of a command's fault in its layer
 abbrev pub command_number : CliFault → ℕ
 command_number (command.Run fault) = run_number fault
 command_number (command.Types fault) = type_number fault
 command_number (command.Json fault) = json_number fault
 command_number (command.File fault) = file_number fault
 
--- of any fault
+-- the number of a fault in its layer
 abbrev pub number_of : Fault → ℕ
 number_of (Command fault) = command_number fault
 number_of (Merge fault) = merge_number fault

@@ -1,4 +1,4 @@
--- A vector that a call writes to takes no more only for want of memory, and so it is told (own).
+-- Writing to a vector fails only for want of memory, so `WriteFailed` is returned as `OutOfMemory` (own).
 use Rattle.std.specs.Prelude.{◌≡◌, ◌≢◌, ◌⊎◌}
 use Rattle.orc_tail.specs.declared.fault.FileFault.TheVariants as file
 use Rattle.orc_merger.specs.declared.fault.MergeFault.{MergeFault}
@@ -7,10 +7,10 @@ use Rattle.orc_cli_output.specs.Output.{write_failed}
 use Rattle.orc_cli_output.specs.declared.fault.CliFault.{CliFault}
 use Rattle.orc_cli_output.specs.declared.fault.CliFault.TheVariants.{File}
 
--- a failed output is told as want of memory, and any other fault as it is
+-- `OutOfMemory` in place of `WriteFailed`, and any other fault unchanged
 abbrev pub ToldAs : CliFault → CliFault → Type 0
 ToldAs was told = ((was ≡ write_failed) × (told ≡ File file.OutOfMemory)) ⊎ ((was ≢ write_failed) × (told ≡ was))
 
--- a merge's failed output is told as want of memory, and any other fault as it is
+-- `OutOfMemory` in place of `WriteFailed` of a merge, and any other fault unchanged
 abbrev pub MergeToldAs : MergeFault → MergeFault → Type 0
 MergeToldAs was told = ((was ≡ WriteFailed) × (told ≡ OutOfMemory)) ⊎ ((was ≢ WriteFailed) × (told ≡ was))

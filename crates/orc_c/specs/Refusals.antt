@@ -1,4 +1,4 @@
--- What each call makes of bytes in memory, and why it doesn't: by the definitions of the command that it calls (own).
+-- What each call makes of bytes in memory, and why it fails, by the definitions of the command that it calls (own).
 use Rattle.std.specs.Prelude.{◌≡◌, ◌≢◌, ◌≤◌, ◌⊎◌, ℕ, List, [], length, sum, Option, Some, None}
 use Rattle.std.specs.Borrow.{Bor}
 use Rattle.std.specs.Str.{IsUtf8}
@@ -32,7 +32,7 @@ use Rattle.orc_c.specs.declared.fault.CallFault.TheVariants.{BadLengths, BadOpti
 use Rattle.orc_c.specs.declared.fault.Fault.{Fault}
 use Rattle.orc_c.specs.declared.fault.Fault.TheVariants.{Command, Merge, Call}
 
--- the fault is a command's, of which this holds
+-- the fault is a command's, and this holds for it
 abbrev pub OfCommand : (CliFault → Type 0) → Fault → Type 0
 OfCommand Holds (Command fault) = Holds fault
 OfCommand Holds (Merge fault) = ⊥
@@ -40,7 +40,7 @@ OfCommand Holds (Call fault) = ⊥
 
 -- ---- orcm_check
 
--- why a file in memory isn't checked: for its bytes or want of memory, and for that alone if the bytes are a file
+-- why a file in memory isn't checked: its bytes or want of memory, and only want of memory if the bytes are a file
 pub record NotChecked (bytes : List ℕ) (fault : CliFault) : Type 0 where
   pub why : IsNotChecked bytes fault
   pub source : fault ≢ File file.SourceFailed
@@ -53,7 +53,7 @@ pub record NotChecked (bytes : List ℕ) (fault : CliFault) : Type 0 where
 abbrev pub IsOutline : List ℕ → List ℕ → Type 0
 IsOutline bytes lines = (tail : Tail) × IsTail bytes tail × (lines ≡ show_lines tail)
 
--- why a file in memory isn't shown: for its bytes or want of memory, and for that alone if the bytes have a tail
+-- why a file in memory isn't shown: its bytes or want of memory, and only want of memory if the bytes have a tail
 pub record NotShown (bytes : List ℕ) (fault : CliFault) : Type 0 where
   pub why : IsNotOpened bytes fault
   pub source : fault ≢ File file.SourceFailed
@@ -62,12 +62,12 @@ pub record NotShown (bytes : List ℕ) (fault : CliFault) : Type 0 where
 
 -- ---- orcm_rows
 
--- the text that a caller's bytes are: none if there is no byte
+-- the text that a caller's bytes are, or none if there are no bytes
 abbrev pub IsTextIn : List ℕ → Option (Bor (List ℕ)) → Type 0
 IsTextIn from None = from ≡ []
 IsTextIn from (Some text) = (from ≢ []) × (text.now ≡ from)
 
--- what is printed of a file, to an output without bytes, from the place on that a text names
+-- what is printed of a file to an empty output, from the stripe and group on that a text names, if there is one
 abbrev pub ArePrintedLines : List ℕ → Option (Bor (List ℕ)) → List ℕ → Type 0
 ArePrintedLines bytes from lines = (start : _) × IsAsked from start × ArePrinted bytes start (Some []) (Some lines)
 
@@ -81,11 +81,11 @@ pub record NotPrinted (bytes : List ℕ) (from : Option (Bor (List ℕ))) (fault
   pub only : from ≡ None → (tail : Tail) (rows : List Cell) → FileIs bytes tail rows → HaveJson tail.schema rows
       → IsWantOfMemory fault
 
--- the same, over the caller's bytes of a text
+-- what is printed of a file from the stripe and group on that the caller's bytes name, if there are any
 abbrev pub AreRowLines : List ℕ → List ℕ → List ℕ → Type 0
 AreRowLines bytes from lines = (text : Option (Bor (List ℕ))) × IsTextIn from text × ArePrintedLines bytes text lines
 
--- why rows aren't printed, over the caller's bytes of a text
+-- why rows aren't printed from the stripe and group on that the caller's bytes name, if there are any
 abbrev pub NotPrintedFrom : List ℕ → List ℕ → Fault → Type 0
 NotPrintedFrom bytes from (Command fault) =
     (text : Option (Bor (List ℕ))) × IsTextIn from text × NotPrinted bytes text fault
@@ -101,11 +101,11 @@ abbrev pub IsVersion : ℕ → Rle → Type 0
 IsVersion number One = number ≡ 1
 IsVersion number Two = number ≡ 2
 
--- there is no such version, or no stripe of so many rows
+-- there is no such version of integer runs, or a stripe can't have this number of rows
 abbrev pub AreNoOptions : ℕ → ℕ → Type 0
 AreNoOptions rle stripe_rows = ((version : Rle) → IsVersion rle version → ⊥) ⊎ ((stripe_rows ≡ 0) ⊎ (cell_limit ≤ stripe_rows))
 
--- the options that numbers stand for, if files are written with them
+-- the options that numbers stand for, or none if no file can be written with them
 abbrev pub IsOptions : ℕ → ℕ → ℕ → Option Options → Type 0
 IsOptions rle stride stripe_rows None = AreNoOptions rle stripe_rows
 IsOptions rle stride stripe_rows (Some options) =
@@ -117,7 +117,7 @@ IsFileOf schema options lines bytes =
     (s : Shape) × (rows : List Cell) × (tail : Tail) × HasText s schema × AreRowsOfLines s lines rows
     × WroteWholeFile options s tail (Some []) (Some bytes) rows
 
--- why no file of lines is written, in memory
+-- why no file is written from lines in memory
 pub record NotWritten (schema : List ℕ) (options : Options) (lines : List ℕ) (fault : CliFault) : Type 0 where
   pub was : CliFault
   pub written : List ℕ
@@ -126,7 +126,7 @@ pub record NotWritten (schema : List ℕ) (options : Options) (lines : List ℕ)
   pub only : (s : Shape) (rows : List Cell) → HasText s schema → AreRowsOfLines s lines rows
       → (fault ≡ File file.Limit) ⊎ IsWantOfMemory fault
 
--- the same, or the schema isn't UTF-8
+-- why no file is written from lines in memory, or the schema isn't UTF-8
 abbrev pub NotWrittenOf : List ℕ → Options → List ℕ → Fault → Type 0
 NotWrittenOf schema options lines (Command fault) = NotWritten schema options lines fault
 NotWrittenOf schema options lines (Merge fault) = ⊥
@@ -139,7 +139,7 @@ abbrev pub IsFileOfLines : List ℕ → ℕ → ℕ → ℕ → List ℕ → Lis
 IsFileOfLines schema rle stride stripe_rows lines bytes =
     (options : Options) × IsOptions rle stride stripe_rows (Some options) × IsFileOf schema options lines bytes
 
--- why no file of lines is written, with options that are given as numbers
+-- why no file is written from lines, with options that are given as numbers
 abbrev pub NotWrittenLines : List ℕ → ℕ → ℕ → ℕ → List ℕ → Fault → Type 0
 NotWrittenLines schema rle stride stripe_rows lines fault =
     ((fault ≡ Call BadOptions) × AreNoOptions rle stripe_rows)
@@ -158,16 +158,16 @@ pub record NotMerged (files : List (List ℕ)) (fault : MergeFault) : Type 0 whe
   pub source : (i : ℕ) → fault ≢ merge.SourceFailed i
   pub output : fault ≢ merge.WriteFailed
 
--- the merged file of the inputs that lie one behind the other
+-- the merged file of inputs that are stored one after the other
 abbrev pub IsMergeOfCut : List ℕ → List ℕ → List ℕ → Type 0
 IsMergeOfCut lengths inputs bytes = (sum lengths ≡ length inputs) × IsMergeOf (cut lengths inputs) bytes
 
--- the lengths aren't those of inputs that are all of the bytes, or memory ran out
+-- the lengths don't add up to the number of bytes, or memory ran out
 abbrev pub NotCut : List ℕ → List ℕ → Fault → Type 0
 NotCut lengths inputs fault =
     ((fault ≡ Call BadLengths) × (sum lengths ≢ length inputs)) ⊎ (fault ≡ Merge merge.OutOfMemory)
 
--- why inputs that lie one behind the other aren't merged
+-- why inputs that are stored one after the other aren't merged
 abbrev pub NotMergedCut : List ℕ → List ℕ → Fault → Type 0
 NotMergedCut lengths inputs fault =
     NotCut lengths inputs fault

@@ -1,4 +1,4 @@
-//! Why a call isn't done.
+//! Errors of the calls.
 ghost use Rattle.std.specs.Prelude.{◌≡◌};
 ghost use Rattle.orc_c.specs.Faults.{layer_of, number_of};
 
@@ -7,13 +7,13 @@ use orc_cli_output::CliFault;
 use orc_merger::MergeFault;
 use thiserror::Error;
 
-/// Why the arguments of a call aren't ones that it takes.
+/// Why the arguments of a call are invalid.
 #[derive(Clone, Copy, Debug, PartialEq, Eq, Error)]
 pub enum CallFault {
-    /// The inputs' lengths aren't together the number of their bytes.
+    /// The lengths of the inputs don't add up to the number of their bytes.
     #[error("call 1 BadLengths")]
     BadLengths,
-    /// No file is written with these options.
+    /// No file can be written with these options.
     #[error("call 2 BadOptions")]
     BadOptions,
     /// A text isn't UTF-8.
@@ -21,8 +21,8 @@ pub enum CallFault {
     NotUtf8,
 }
 
-/// Why a call isn't done: the fault of a command, of a merge, or of the call's arguments. Its text is what the program
-/// prints behind `orcm: `.
+/// Why a call failed: the fault of a command, of a merge, or of the call's arguments. Its text is what the program
+/// prints after `orcm: `.
 #[derive(Clone, Copy, Debug, PartialEq, Eq, Error)]
 pub enum Fault {
     #[error("{0}")]
@@ -34,10 +34,10 @@ pub enum Fault {
 }
 
 impl Fault {
-    /// The number of the fault's layer.
+    /// Returns the number of the fault's layer.
     pub fn layer(self) -> u32
-        // The answer is the number of the fault's layer: 1 for runs, 2 for types, 3 for JSON, 4 for files, 5 for merging
-        // and 6 for the call's own arguments.
+        // Returns the number of the fault's layer: 1 for runs, 2 for types, 3 for JSON, 4 for files, 5 for merging,
+        // and 6 for the arguments of a call.
         ensures { result ≡ layer_of self }
     {
         match self {
@@ -50,9 +50,9 @@ impl Fault {
         }
     }
 
-    /// The fault's number in its layer.
+    /// Returns the fault's number in its layer.
     pub fn number(self) -> u32
-        // The answer is the number that the fault has in its layer.
+        // Returns the number that the fault has in its layer.
         ensures { result ≡ number_of self }
     {
         match self {

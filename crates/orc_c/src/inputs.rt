@@ -1,4 +1,4 @@
-//! Inputs that lie one behind the other.
+//! Inputs that are stored one after the other.
 ghost use Rattle.std.specs.Prelude.{◌≡◌, ◌≢◌, map, Some, IfOk, IfErr, sum, length};
 ghost use Rattle.orc_c.specs.Inputs.{cut};
 ghost use Rattle.orc_c.specs.Refusals.{NotCut};
@@ -8,7 +8,7 @@ use orc_io::{SliceSource, Source};
 use orc_merger::MergeFault;
 use std::alloc::Global;
 
-/// The inputs of these lengths, as sources.
+/// Cuts `inputs` into sources of these lengths.
 pub(crate) fn sources_of<'a>(
     alloc: Global,
     inputs: &'a [u8],

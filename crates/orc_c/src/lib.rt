@@ -1,5 +1,5 @@
-//! The calls of `orcm` for programs in C, and in languages that call C: over bytes in memory, into the caller's buffer.
-//! include/orcm.h has them for C.
+//! The calls of `orcm` for programs in C, and in languages that call C. They take files as bytes in memory and write
+//! into a buffer of the caller. `include/orcm.h` declares them for C.
 #![tactic(auto)]
 
 mod answer;

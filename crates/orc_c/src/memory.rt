@@ -1,11 +1,12 @@
-//! Faults of a vector that a call writes to.
+//! Faults of writing to a vector.
 ghost use Rattle.orc_c.specs.Memory.{ToldAs, MergeToldAs};
 
 use orc_cli_output::CliFault;
 use orc_merger::MergeFault;
 use orc_tail::FileFault;
 
-/// The fault that is told: a vector takes no more only for want of memory.
+/// Returns the fault, with `OutOfMemory` in place of `WriteFailed`: writing to a vector fails only for want of
+/// memory.
 pub(crate) fn told_of(fault: CliFault) -> CliFault
     ensures { ToldAs fault result }
 {
@@ -15,7 +16,8 @@ pub(crate) fn told_of(fault: CliFault) -> CliFault
     }
 }
 
-/// The fault of a merge that is told: a vector takes no more only for want of memory.
+/// Returns the fault of a merge, with `OutOfMemory` in place of `WriteFailed`: writing to a vector fails only for
+/// want of memory.
 pub(crate) fn merge_told_of(fault: MergeFault) -> MergeFault
     ensures { MergeToldAs fault result }
 {

@@ -1,4 +1,4 @@
-//! The number of each fault in its layer, as its text has it.
+//! The numbers of the faults in their layers, as the faults' texts have them.
 ghost use Rattle.std.specs.Prelude.{◌≡◌};
 ghost use Rattle.orc_c.specs.Faults as spec;
 
@@ -10,7 +10,7 @@ use orc_rle::RunFault;
 use orc_tail::FileFault;
 use orc_trees::TypeFault;
 
-/// The number of a fault of runs.
+/// Returns the number of a fault of runs.
 fn run_number(fault: RunFault) -> u32
     ensures { result ≡ spec.run_number fault }
 {
@@ -29,7 +29,7 @@ fn run_number(fault: RunFault) -> u32
     }
 }
 
-/// The number of a fault of types.
+/// Returns the number of a fault of types.
 fn type_number(fault: TypeFault) -> u32
     ensures { result ≡ spec.type_number fault }
 {
@@ -44,7 +44,7 @@ fn type_number(fault: TypeFault) -> u32
     }
 }
 
-/// The number of a fault of JSON.
+/// Returns the number of a fault of JSON.
 fn json_number(fault: JsonFault) -> u32
     ensures { result ≡ spec.json_number fault }
 {
@@ -60,7 +60,7 @@ fn json_number(fault: JsonFault) -> u32
     }
 }
 
-/// The number of a fault of files.
+/// Returns the number of a fault of files.
 fn file_number(fault: FileFault) -> u32
     ensures { result ≡ spec.file_number fault }
 {
@@ -85,7 +85,7 @@ fn file_number(fault: FileFault) -> u32
     }
 }
 
-/// The number of a command's fault in its layer.
+/// Returns the number of a command's fault in its layer.
 pub(crate) fn command_number(fault: CliFault) -> u32
     ensures { result ≡ spec.command_number fault }
 {
@@ -97,7 +97,7 @@ pub(crate) fn command_number(fault: CliFault) -> u32
     }
 }
 
-/// The number of a fault of merging.
+/// Returns the number of a fault of merging.
 pub(crate) fn merge_number(fault: MergeFault) -> u32
     ensures { result ≡ spec.merge_number fault }
 {
@@ -117,7 +117,7 @@ pub(crate) fn merge_number(fault: MergeFault) -> u32
     }
 }
 
-/// The number of a fault of a call's arguments.
+/// Returns the number of a fault of a call's arguments.
 pub(crate) fn call_number(fault: CallFault) -> u32
     ensures { result ≡ spec.call_number fault }
 {

@@ -1,4 +1,4 @@
-//! What goes into the caller's buffer.
+//! Puts bytes into the caller's buffer.
 ghost use Rattle.std.specs.Prelude.{◌≡◌};
 ghost use Rattle.orc_c.specs.Answers.{WasPut, WasTold, holding};
 
@@ -6,7 +6,7 @@ use crate::answer::Answer;
 use crate::fault::Fault;
 use std::alloc::Global;
 
-/// Puts as many of the bytes into the buffer as it has room for.
+/// Copies as many of the bytes into the buffer as it has room for.
 fn copy_front(bytes: &[u8], out: &mut [u8])
     ensures { out.new ≡ holding bytes.now out.old }
 {
@@ -14,7 +14,7 @@ fn copy_front(bytes: &[u8], out: &mut [u8])
     out[..n].copy_from_slice(&bytes[..n]);
 }
 
-/// Puts what a call made into the buffer, and answers its length.
+/// Puts what a call made into the buffer, and returns its length.
 pub(crate) fn put(bytes: &[u8], out: &mut [u8]) -> Answer
     ensures { WasPut bytes.now out.old out.new result }
 {
@@ -26,7 +26,8 @@ pub(crate) fn put(bytes: &[u8], out: &mut [u8]) -> Answer
     }
 }
 
-/// Puts the text of a fault into the buffer, and answers the fault. There is no text if there is no memory to make it.
+/// Puts the text of a fault into the buffer, and returns the fault. If there is no memory to make the text, then it
+/// is empty.
 pub(crate) fn tell(alloc: Global, fault: Fault, out: &mut [u8]) -> Answer
     ensures { WasTold fault out.old out.new result }
 {

@@ -1,4 +1,4 @@
-//! `orcm_write`: lines of JSON as a file of rows, in memory.
+//! `orcm_write`: writes a file in memory from lines of JSON.
 ghost use Rattle.std.specs.Prelude.{◌≡◌, ◌≢◌, IfOk, IfErr};
 ghost use Rattle.orc_c.specs.Answers.{HasPut, HasTold};
 ghost use Rattle.orc_c.specs.Refusals.{IsFileOf, IsFileOfLines, IsOptions, NotWritten, NotWrittenOf, NotWrittenLines};
@@ -14,7 +14,7 @@ use orc_rle::Rle;
 use orc_row_batch::Options;
 use std::alloc::Global;
 
-/// The file of the rows that lines spell.
+/// Returns the file of the rows that lines of JSON spell.
 fn file_of(alloc: Global, schema: &str, options: Options, lines: &[u8]) -> Result<Vec<u8>, CliFault>
     ensures written { IfOk result (λ file. IsFileOf schema.now options lines.now file.items) }
     ensures refused { IfErr result (NotWritten schema.now options lines.now) }
@@ -25,7 +25,7 @@ fn file_of(alloc: Global, schema: &str, options: Options, lines: &[u8]) -> Resul
     }
 }
 
-/// The options that numbers stand for, if files are written with them.
+/// Returns the options that numbers stand for, or `None` if no file can be written with them.
 fn options_of(rle: u32, stride: u32, stripe_rows: u32) -> Option<Options>
     ensures { IsOptions rle stride stripe_rows result }
 {
@@ -36,7 +36,7 @@ fn options_of(rle: u32, stride: u32, stripe_rows: u32) -> Option<Options>
     }
 }
 
-/// The file of the rows that lines spell, of a schema's text that has to be UTF-8.
+/// Returns the file of the rows that lines of JSON spell. The schema's text must be UTF-8.
 fn file_of_text(
     alloc: Global,
     schema: &[u8],
@@ -55,7 +55,7 @@ fn file_of_text(
     }
 }
 
-/// The file of the rows that lines spell, with options that are given as numbers.
+/// Returns the file of the rows that lines of JSON spell, with options that are given as numbers.
 fn file_of_lines(
     alloc: Global,
     schema: &[u8],
@@ -73,11 +73,15 @@ fn file_of_lines(
     }
 }
 
-/// Puts the file of the rows that lines of JSON spell, a row a line: with integers in runs of version `rle`, 1 or 2, an
-/// entry of the row index each `stride` rows, or none where it is 0, and stripes of `stripe_rows` rows.
+/// Writes a file from lines of JSON, one row per line, and puts it into the buffer. `rle`, 1 or 2, is the version of
+/// the integer runs. `stride` is the number of rows in a group of the row index; with 0 no row index is written.
+/// `stripe_rows` is the number of rows in a stripe.
 ///
-/// Refusals: `Call` with `BadOptions`, if `rle` is another number, or `stripe_rows` is 0 or more than 2,147,483,647, or
-/// with `NotUtf8`; and those of `write_from`, but for a failed output.
+/// # Errors
+///
+/// - `BadOptions` if `rle` is neither 1 nor 2, or if `stripe_rows` is 0 or more than 2,147,483,647.
+/// - `NotUtf8` if `schema` isn't UTF-8.
+/// - Those of `write_from`, but not `WriteFailed`.
 #[unsafe(no_mangle)]
 pub extern "C" fn orcm_write(
     alloc: Global,
@@ -88,16 +92,17 @@ pub extern "C" fn orcm_write(
     lines: &[u8],
     out: &mut [u8],
 ) -> Answer
-    // If the answered layer is 0, then `schema` is the text of a schema, and `lines` spells rows of it. The answered
-    // length is that of the whole file of these rows, in order, with these options. The buffer begins with this file, as
-    // far as it has room, and is unchanged behind it.
+    // If the returned layer is 0, then `schema` is the text of a schema, and `lines` spells rows of it. The returned
+    // length is that of the whole file of these rows, in order, with these options. The buffer begins with this file,
+    // as far as it has room, and is unchanged after it.
     ensures written { result.layer ≡ 0 → HasPut out.old out.new result
         (IsFileOfLines schema.now rle stride stripe_rows lines.now) }
-    // If the answered layer isn't 0, then layer and number are those of `BadOptions`, and no file is written with these
-    // options; of `NotUtf8`, and `schema` isn't UTF-8; or of a fault for which `write_from` refuses the schema or the
-    // lines, with `OutOfMemory` in place of `WriteFailed`. If `schema` is the text of a schema, and each line that isn't
-    // empty spells a row of it, then the fault is `Limit`, `OutOfMemory` or `BadOptions`. The answered length is that of
-    // a text. The buffer begins with this text, as far as it has room, and is unchanged behind it.
+    // If the returned layer isn't 0, then layer and number are those of `BadOptions`, and no file can be written with
+    // these options; or of `NotUtf8`, and `schema` isn't UTF-8; or of a fault for which `write_from` refuses the
+    // schema or the lines, with `OutOfMemory` in place of `WriteFailed`. If `schema` is UTF-8 and the text of a
+    // schema, and each line that isn't empty spells a row of it, then the fault is `Limit`, `OutOfMemory` or
+    // `BadOptions`. The returned length is that of a text. The buffer begins with this text, as far as it has room,
+    // and is unchanged after it.
     ensures refused { result.layer ≢ 0 → HasTold out.old out.new result
         (NotWrittenLines schema.now rle stride stripe_rows lines.now) }
 {
