@@ -1,4 +1,4 @@
-//! What a command refuses with.
+//! Errors of commands.
 
 use orc_json_rows::JsonFault;
 use orc_rle::RunFault;
@@ -7,23 +7,23 @@ use orc_trees::TypeFault;
 use std::alloc::AllocError;
 use thiserror::Error;
 
-/// The fault of the layer that refused. Its text is the layer, the fault's number and name in that
-/// layer, and its place where it has one; an inner layer's fault follows. What is made of a layer's
-/// fault is that layer's, and what is made of a refusal of the allocator is want of memory of the
-/// layer of files. Where the program itself can't open a file, write its output or get memory, that
-/// is a fault of the layer of files. Merging refuses with the merger's own fault.
+/// The fault of the layer in which a command failed. Its text is the layer, the fault's number and name in that
+/// layer, and its place if it has one; an inner layer's fault follows.
+///
+/// If the allocator refuses memory, or if the program itself can't open a file or write its output, then that is a
+/// fault of the layer of files. Merging has faults of its own, those of `orc_merger`.
 #[derive(Clone, Copy, Debug, PartialEq, Eq, Error)]
 pub enum CliFault {
-    /// The bytes are no stream of runs.
+    /// The bytes aren't a stream of integer runs.
     #[error("{0}")]
     Run(RunFault),
-    /// A schema wasn't read from its text or written as one.
+    /// A schema's text could not be read or made.
     #[error("{0}")]
     Types(TypeFault),
-    /// The text is no JSON of that kind, or there is none for a row.
+    /// A text isn't the JSON that was expected, or a row has no JSON.
     #[error("{0}")]
     Json(JsonFault),
-    /// The file isn't read or written.
+    /// A file could not be read or written.
     #[error("{0}")]
     File(FileFault),
 }

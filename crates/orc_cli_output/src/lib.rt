@@ -1,4 +1,4 @@
-//! What a command refuses with, the numbers in its words, and bytes on their way out.
+//! Errors of commands, numbers among their arguments, and writing their output.
 #![tactic(auto)]
 
 mod fault;

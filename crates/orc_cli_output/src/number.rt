@@ -1,11 +1,11 @@
-//! Numbers in the words of a command.
+//! Reads numbers among the arguments of a command.
 ghost use Rattle.std.specs.Prelude.{ℕ, IfSome, IsSome};
 ghost use Rattle.orc_cli_output.specs.Numbers.{IsDecimalNumber};
 
-/// The number that decimal digits alone write, where 32 bits hold it. There may be zeros in front, and no sign.
+/// Returns the number that decimal digits spell, if it is below 2^32. Leading zeros are allowed, and signs aren't.
 pub fn number_of(digits: &str) -> Option<u32>
-    // A number is answered just where the text is decimal digits alone, zeros in front allowed, and
-    // their number is below 2^32; it is that number.
+    // A number is returned if and only if `digits` has decimal digits alone, leading zeros among them, and spells a
+    // number below 2^32, and then it is this number.
     ensures found { IfSome result (IsDecimalNumber digits.now) }
     ensures only { (n : ℕ) → IsDecimalNumber digits.now n → IsSome result }
 {

@@ -1,4 +1,4 @@
-//! Bytes on their way out.
+//! Writes bytes to an output.
 ghost use Rattle.std.specs.Prelude.{◌≡◌, OnOk, OnErr, IfErr};
 ghost use Rattle.std.specs.Io.KnownBytes.{Appends};
 ghost use Rattle.orc_cli_output.specs.Output.{AppendsPart, write_failed};
@@ -7,16 +7,14 @@ use crate::fault::CliFault;
 use orc_tail::FileFault;
 use std::io::Write;
 
-/// Writes all the bytes. It is refused, as `WriteFailed`, at the first `write` that fails or takes
-/// nothing: then a part of the bytes is out, and not all of them.
+/// Writes all the bytes. Fails with `WriteFailed` at the first `write` that fails or takes no bytes. Then the output
+/// has got a proper prefix of the bytes.
 pub fn write_out<W: Write>(out: &mut W, bytes: &[u8]) -> Result<(), CliFault>
-    // Where it succeeds, and the output tells its bytes, all the bytes are out, in order, and
-    // nothing else.
+    // If the call succeeds, then the output has got exactly `bytes`, in order, if the output's bytes are known.
     ensures all { OnOk result (Appends (W.contents out.old) (W.contents out.new) bytes.now) }
-    // The one refusal is WriteFailed.
+    // An error is `WriteFailed`.
     ensures refused { IfErr result (λ fault. fault ≡ write_failed) }
-    // After a refusal, where the output tells its bytes, a part of the bytes is out, and not all of
-    // them.
+    // If the call fails, then the output has got a proper prefix of `bytes` if the output's bytes are known.
     ensures part { OnErr result (AppendsPart (W.contents out.old) (W.contents out.new) bytes.now) }
 {
     let mut at = 0;
