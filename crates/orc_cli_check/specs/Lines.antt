@@ -1,4 +1,4 @@
--- What `check` prints of a file: a finding a line.
+-- What `check` prints of a file: its findings, one per line.
 use Rattle.std.specs.Prelude.{◌≡◌, ℕ, List, [], ◌∷◌, ◌++◌, ◌⊎◌}
 use Rattle.std.specs.List.{flat_map}
 use Rattle.orc_values.specs.Cells.{Cell}
@@ -13,28 +13,28 @@ use Rattle.orc_check.specs.FindingText.{finding_text}
 use Rattle.orc_check.specs.Findings.{Findings}
 use Rattle.orc_check.specs.declared.finding.Finding.{Finding}
 
--- a finding's text and a line end
+-- the line of a finding: its text and a line end
 abbrev pub finding_line : Finding → List ℕ
 finding_line finding = finding_text finding ++ 10 ∷ []
 
--- a line a finding, in their order
+-- the lines of findings, in order
 abbrev pub finding_lines : List Finding → List ℕ
 finding_lines found = flat_map finding_line found
 
--- the bytes are a file of some rows, and this holds of what is found of it
+-- the bytes are a file with some rows, and this holds for its list of findings
 abbrev pub IsFoundOf : List ℕ → (List Finding → Type 0) → Type 0
 IsFoundOf bytes Holds =
     (tail : Tail) × (rows : List Cell) × (found : List Finding)
     × FileIs bytes tail rows × Findings bytes tail rows found × Holds found
 
--- the source failed, or memory ran out, named as a fault of the layer of files
+-- the source failed, or memory ran out, as a fault of the layer of files
 abbrev pub IsSourceOrMemory : CliFault → Type 0
 IsSourceOrMemory fault = (fault ≡ File SourceFailed) ⊎ (fault ≡ File OutOfMemory)
 
--- the layer whose want of memory `check` answers: that of files, which is the program's own too
+-- the want of memory that `check` may fail with: that of the layer of files, in which the program's own counts too
 abbrev pub IsWantOfCheck : CliFault → Type 0
 IsWantOfCheck fault = fault ≡ File OutOfMemory
 
--- why a file isn't checked: by its bytes, or for its source or memory
+-- why a file isn't checked: a fault of its bytes, a failed source, or want of memory
 abbrev pub IsNotChecked : List ℕ → CliFault → Type 0
 IsNotChecked bytes fault = ((why : FileFault) × (fault ≡ File why) × CheckFault bytes why) ⊎ IsSourceOrMemory fault

@@ -1,4 +1,4 @@
-//! `orcm check`: what a file says of itself and is not so.
+//! `orcm check`: checks statistics and row indexes against the rows.
 ghost use Rattle.std.specs.Prelude.{◌≡◌, ◌≢◌, ◌⊎◌, List, length, IfOk, OnOk, IfErr, IfSome, string_bytes};
 ghost use Rattle.std.specs.Io.KnownBytes.{Appends, Keeps};
 ghost use Rattle.orc_values.specs.Cells.{Cell};
@@ -16,7 +16,7 @@ use orc_io::Source;
 use std::alloc::{AllocError, Global};
 use std::io::Write;
 
-/// A line a finding.
+/// Returns the lines of findings, one per finding.
 fn lines_of(alloc: Global, found: &[Finding]) -> Result<String, AllocError>
     ensures { IfOk result (λ lines. string_bytes lines ≡ finding_lines found.now) }
 {
@@ -27,7 +27,7 @@ fn lines_of(alloc: Global, found: &[Finding]) -> Result<String, AllocError>
     Ok(lines)
 }
 
-/// Prints a line a finding, once all of them are there.
+/// Prints one line per finding, once all lines are made.
 fn print_findings<W: Write>(alloc: Global, found: &[Finding], out: &mut W) -> Result<(), CliFault>
     ensures written { OnOk result (Appends (W.contents out.old) (W.contents out.new) (finding_lines found.now)) }
     ensures refused { IfErr result (λ fault.
@@ -38,11 +38,17 @@ fn print_findings<W: Write>(alloc: Global, found: &[Finding], out: &mut W) -> Re
     write_out(out, lines.as_bytes())
 }
 
-/// Prints what is found of a file, a finding a line: its name and its numbers, with a blank between them. Nothing is
-/// written before all of the file is checked. How many findings there are is answered, and the source is handed back.
+/// Checks a file's statistics and row indexes against its rows, and prints its findings, one per line: the finding's
+/// name and its numbers, separated by blanks. Nothing is printed before the whole file was checked. Returns the
+/// number of findings, and the source.
 ///
-/// Refusals: `File` with the fault of `check`, of the bytes, the source or memory, and nothing is written; or with
-/// `WriteFailed`, and a part of the lines is written.
+/// # Errors
+///
+/// The source is returned beside the error, which is `File` with
+///
+/// - a fault of `check`, of the file's bytes, of the source or of memory; then nothing was printed;
+/// - `OutOfMemory` if there is no memory for the lines; then nothing was printed;
+/// - `WriteFailed` if the output failed; then a proper prefix of the lines was printed.
 pub fn check_to<S: Source, W: Write>(
     alloc: Global,
     source: S,

@@ -1,4 +1,4 @@
-//! What is found of a file, as lines of text.
+//! Prints the findings of a file, one per line.
 #![tactic(auto)]
 
 mod findings;
