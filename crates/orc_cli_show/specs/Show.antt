@@ -1,4 +1,4 @@
--- What `show` prints of a file: what its tail says, a fact a line.
+-- What `show` prints of a file: its tail, one item per line.
 use Rattle.std.specs.Prelude.{◌≡◌, ◌⊎◌, ℕ, ◌+◌, List, [], ◌∷◌, ◌++◌, map, Bool, true, false, if◌then◌else◌, Option, Some, None, codes, decimal}
 use Rattle.std.specs.List.{flat_map, join_with_byte}
 use Rattle.std.specs.Fmt.{signed_decimal}
@@ -19,32 +19,32 @@ use Rattle.orc_tail.specs.declared.fault.FileFault.TheVariants as file
 use Rattle.orc_cli_output.specs.declared.fault.CliFault.{CliFault}
 use Rattle.orc_cli_output.specs.declared.fault.CliFault.TheVariants.{Types, File}
 
--- a number, or the word none
+-- a number in decimal digits, or the word none
 abbrev pub number_or_none : Option ℕ → List ℕ
 number_or_none None = codes "none"
 number_or_none (Some n) = decimal n
 
--- 0.11, or none where there are no numbers
+-- a version such as 0.11, or the word none if it has no numbers
 abbrev pub version_text : List ℕ → List ℕ
 version_text [] = codes "none"
 version_text (n ∷ ns) = join_with_byte 46 (map decimal (n ∷ ns))
 
--- a text as JSON writes it, or as its bytes' digits where they are no text
+-- a text as JSON writes it, or `hex:` and the hexadecimal digits of its bytes if they aren't UTF-8
 abbrev pub name_text : List ℕ → List ℕ
 name_text bytes = if is_utf8 bytes then compact_text (string bytes) else codes "hex:" ++ encode_lower bytes
 
--- whether there are nulls, as a word
+-- a word that says whether there are nulls
 abbrev pub nulls_word : Option Bool → List ℕ
 nulls_word None = codes "unknown"
 nulls_word (Some true) = codes "yes"
 nulls_word (Some false) = codes "no"
 
--- a part's name and its value, where it is known
+-- the name and the value of a part of a statistic, if it is known
 abbrev pub known_line : {A : Type 0} → List ℕ → (A → List ℕ) → Option A → List ℕ
 known_line name of None = []
 known_line name of (Some x) = 32 ∷ (name ++ 32 ∷ of x)
 
--- what a statistic tells by its kind
+-- the parts of a statistic that depend on the column's kind
 abbrev pub body_text : Body → List ℕ
 body_text Plain = []
 body_text (Ints least greatest sum) =
@@ -60,11 +60,11 @@ body_text (Children least greatest total) =
     known_line (codes "min") decimal least
     ++ (known_line (codes "max") decimal greatest ++ known_line (codes "sum") decimal total)
 
--- a pair of the user's: its name, and its value's bytes as digits
+-- the line of a pair of user metadata: its name, and the hexadecimal digits of its value
 abbrev pub pair_line : UserMetadataItem → List ℕ
 pair_line pair = codes "meta " ++ (name_text pair.name ++ 32 ∷ (encode_lower pair.value ++ 10 ∷ []))
 
--- a stripe's line: where it is and how long its parts are
+-- the line of a stripe: its offset, the lengths of its parts, and its number of rows
 abbrev pub stripe_line : ℕ → StripeInfo → List ℕ
 stripe_line n s =
     codes "stripe " ++ (decimal n
@@ -74,7 +74,7 @@ stripe_line n s =
     ++ (codes " footer " ++ (decimal s.footer_length
     ++ (codes " rows " ++ (decimal s.number_of_rows ++ 10 ∷ [])))))))))))
 
--- a column's line: how many values, whether nulls, what its statistic tells
+-- the line of a column: the number of values, whether there are nulls, and the parts that depend on its kind
 abbrev pub column_line : ℕ → Stat → List ℕ
 column_line n s =
     codes "column " ++ (decimal n
@@ -82,7 +82,7 @@ column_line n s =
     ++ (codes " nulls " ++ (nulls_word s.nulls
     ++ (body_text s.body ++ 10 ∷ []))))))
 
--- a line for each, which are numbered from this number on
+-- a line for each item; the items are numbered from this number on
 abbrev pub numbered : {A : Type 0} → (ℕ → A → List ℕ) → ℕ → List A → List ℕ
 numbered of n [] = []
 numbered of n (x ∷ xs) = of n x ++ numbered of (n + 1) xs
@@ -97,7 +97,8 @@ head_lines tail =
     ++ (codes "\nrows " ++ (decimal tail.rows
     ++ (codes "\nstride " ++ (decimal tail.stride ++ 10 ∷ []))))))))))
 
--- those, and one for each pair of the user's, each stripe, and each column's statistic that the file has
+-- the lines of the file as a whole, of each pair of user metadata, of each stripe, and of each column's statistic
+-- that the file has
 abbrev pub show_lines : Tail → List ℕ
 show_lines tail =
     head_lines tail
@@ -105,7 +106,7 @@ show_lines tail =
     ++ (numbered stripe_line 0 tail.stripes
     ++ numbered column_line 0 tail.file_stats))
 
--- The layers whose want of memory `show` answers: that of types, for the schema's text, and that of files, which is the
--- program's own too.
+-- The want of memory that `show` may fail with: that of types, for the schema's text, and that of files, in which the
+-- program's own counts too.
 abbrev pub IsWantOfShow : CliFault → Type 0
 IsWantOfShow fault = (fault ≡ Types types.OutOfMemory) ⊎ (fault ≡ File file.OutOfMemory)

@@ -1,4 +1,4 @@
-//! What a file says of itself, as lines of text.
+//! Prints the tail of a file as lines of text.
 #![tactic(auto)]
 
 mod show;

@@ -1,4 +1,4 @@
-//! `orcm show`: what a file says of itself.
+//! `orcm show`: prints the tail of a file.
 ghost use Rattle.std.specs.Prelude.{◌≡◌, ◌≢◌, ◌++◌, ◌⊎◌, IfOk, OnOk, IfErr, IfSome, string_bytes, decimal, codes};
 ghost use Rattle.std.specs.List.{flat_map};
 ghost use Rattle.std.specs.Fmt.{signed_decimal};
@@ -23,7 +23,7 @@ use serde_json::Value as Json;
 use std::alloc::{AllocError, Global};
 use std::io::Write;
 
-/// A text as JSON writes it, or `hex:` and its bytes' digits where they are no text.
+/// Returns a text as JSON writes it, or `hex:` and the hexadecimal digits of its bytes if they aren't UTF-8.
 fn name_of(alloc: Global, bytes: &[u8]) -> Result<String, AllocError>
     ensures { IfOk result (λ text. string_bytes text ≡ spec.name_text bytes.now) }
 {
@@ -37,7 +37,7 @@ fn name_of(alloc: Global, bytes: &[u8]) -> Result<String, AllocError>
     }
 }
 
-/// The numbers of a version joined by dots, or `none` where there are none.
+/// Returns the numbers of a version, joined by dots, or `none` if there are none.
 fn version_of(alloc: Global, version: &[u32]) -> Result<String, AllocError>
     ensures { IfOk result (λ text. string_bytes text ≡ spec.version_text version.now) }
 {
@@ -54,7 +54,7 @@ fn version_of(alloc: Global, version: &[u32]) -> Result<String, AllocError>
     Ok(text)
 }
 
-/// A number, or `none` where there is none.
+/// Returns a number in decimal digits, or `none` if there is none.
 fn number_or_none(alloc: Global, number: Option<u32>) -> Result<String, AllocError>
     ensures { IfOk result (λ text. string_bytes text ≡ spec.number_or_none number) }
 {
@@ -64,7 +64,7 @@ fn number_or_none(alloc: Global, number: Option<u32>) -> Result<String, AllocErr
     }
 }
 
-/// Puts a part's name and number, where it is known.
+/// Appends the name and the value of an integer, if it is known.
 fn put_number(lines: &mut String, name: &str, part: Option<i64>) -> Result<(), AllocError>
     ensures { OnOk result (string_bytes lines.new ≡ string_bytes lines.old ++ spec.known_line name.now signed_decimal part) }
 {
@@ -74,7 +74,7 @@ fn put_number(lines: &mut String, name: &str, part: Option<i64>) -> Result<(), A
     }
 }
 
-/// Puts a part's name and how many it counts, where it is known.
+/// Appends the name and the value of a count, if it is known.
 fn put_count(lines: &mut String, name: &str, part: Option<u64>) -> Result<(), AllocError>
     ensures { OnOk result (string_bytes lines.new ≡ string_bytes lines.old ++ spec.known_line name.now decimal part) }
 {
@@ -84,7 +84,7 @@ fn put_count(lines: &mut String, name: &str, part: Option<u64>) -> Result<(), Al
     }
 }
 
-/// Puts a part's name and its date, where it is known.
+/// Appends the name and the value of a date, if it is known.
 fn put_date(
     alloc: Global,
     lines: &mut String,
@@ -99,7 +99,7 @@ fn put_date(
     }
 }
 
-/// Puts a part's name and its text, where it is known.
+/// Appends the name and the value of a text, if it is known.
 fn put_text(
     alloc: Global,
     lines: &mut String,
@@ -115,7 +115,7 @@ fn put_text(
     }
 }
 
-/// Puts how many are true, where that is known.
+/// Appends the number of true values, if it is known.
 fn put_trues(lines: &mut String, trues: Option<u64>) -> Result<(), AllocError>
     ensures { OnOk result (string_bytes lines.new ≡ string_bytes lines.old ++ spec.known_line (codes "true") decimal trues) }
 {
@@ -125,7 +125,7 @@ fn put_trues(lines: &mut String, trues: Option<u64>) -> Result<(), AllocError>
     }
 }
 
-/// Puts what is known of a column's values.
+/// Appends what is known of a column's values, by the kind of the column.
 fn put_body(alloc: Global, lines: &mut String, body: &Body) -> Result<(), AllocError>
     ensures { OnOk result (string_bytes lines.new ≡ string_bytes lines.old ++ spec.body_text body.now) }
 {
@@ -167,7 +167,7 @@ fn put_body(alloc: Global, lines: &mut String, body: &Body) -> Result<(), AllocE
     }
 }
 
-/// Whether a cell is null, in a word.
+/// Returns a word that says whether a column has nulls.
 fn nulls_word(nulls: Option<bool>) -> &'static str
     ensures { result.now ≡ spec.nulls_word nulls }
 {
@@ -178,7 +178,7 @@ fn nulls_word(nulls: Option<bool>) -> &'static str
     }
 }
 
-/// Puts the line of a column's statistic.
+/// Appends the line of a column's statistic.
 fn put_column(
     alloc: Global,
     lines: &mut String,
@@ -194,7 +194,7 @@ fn put_column(
     lines.push_str("\n")
 }
 
-/// Puts the line of a stripe.
+/// Appends the line of a stripe.
 fn put_stripe(lines: &mut String, number: usize, stripe: StripeInfo) -> Result<(), AllocError>
     ensures { OnOk result (string_bytes lines.new ≡ string_bytes lines.old ++ spec.stripe_line number stripe) }
 {
@@ -211,7 +211,7 @@ fn put_stripe(lines: &mut String, number: usize, stripe: StripeInfo) -> Result<(
     )
 }
 
-/// Puts the line of a pair of the user's.
+/// Appends the line of a pair of user metadata.
 fn put_pair(alloc: Global, lines: &mut String, pair: &UserMetadataItem) -> Result<(), AllocError>
     ensures { OnOk result (string_bytes lines.new ≡ string_bytes lines.old ++ spec.pair_line pair.now) }
 {
@@ -220,7 +220,7 @@ fn put_pair(alloc: Global, lines: &mut String, pair: &UserMetadataItem) -> Resul
     write!(lines, "meta {name} {value}\n")
 }
 
-/// Puts the lines of the file as a whole.
+/// Appends the lines of the file as a whole.
 fn put_head(alloc: Global, lines: &mut String, tail: &Tail) -> Result<(), CliFault>
     ensures found { OnOk result (string_bytes lines.new ≡ string_bytes lines.old ++ spec.head_lines tail.now) }
     ensures fault { IfErr result spec.IsWantOfShow }
@@ -237,7 +237,7 @@ fn put_head(alloc: Global, lines: &mut String, tail: &Tail) -> Result<(), CliFau
     Ok(())
 }
 
-/// Puts the lines of the user's pairs.
+/// Appends the lines of user metadata.
 fn put_pairs(
     alloc: Global,
     lines: &mut String,
@@ -251,7 +251,7 @@ fn put_pairs(
     Ok(())
 }
 
-/// Puts the lines of stripes.
+/// Appends the lines of stripes.
 fn put_stripes(lines: &mut String, stripes: &[StripeInfo]) -> Result<(), AllocError>
     ensures { OnOk result
         (string_bytes lines.new ≡ string_bytes lines.old ++ spec.numbered spec.stripe_line 0 stripes.now) }
@@ -262,7 +262,7 @@ fn put_stripes(lines: &mut String, stripes: &[StripeInfo]) -> Result<(), AllocEr
     Ok(())
 }
 
-/// Puts the lines of columns' statistics.
+/// Appends the lines of columns' statistics.
 fn put_columns(alloc: Global, lines: &mut String, stats: &[Stat]) -> Result<(), AllocError>
     ensures { OnOk result
         (string_bytes lines.new ≡ string_bytes lines.old ++ spec.numbered spec.column_line 0 stats.now) }
@@ -273,7 +273,7 @@ fn put_columns(alloc: Global, lines: &mut String, stats: &[Stat]) -> Result<(), 
     Ok(())
 }
 
-/// What a tail says, a fact a line.
+/// Returns the lines that show a tail.
 fn lines_of(alloc: Global, tail: &Tail) -> Result<String, CliFault>
     ensures found { IfOk result (λ lines. string_bytes lines ≡ spec.show_lines tail.now) }
     ensures fault { IfErr result spec.IsWantOfShow }
@@ -286,12 +286,19 @@ fn lines_of(alloc: Global, tail: &Tail) -> Result<String, CliFault>
     Ok(lines)
 }
 
-/// Prints what a file says of itself: its schema, its version, who wrote it, how many rows and rows a group
-/// it has; each pair of the user's, with its value in hexadecimal digits; where its stripes stand; and each
-/// column's statistic that it has. Nothing is written before all of it is there. The source is handed back.
+/// Prints the lines that show a file's tail: its schema, version, writer, number of rows and stride; each pair of
+/// user metadata, with its value in hexadecimal digits; the place of each stripe; and each column's file statistic,
+/// if it has one. Nothing is printed before all lines are made. Returns the source.
 ///
-/// Refusals: `File` where the bytes are no file, with `WriteFailed` and a part of the lines written,
-/// `SourceFailed` where the source failed, or `OutOfMemory`, which may be `Types`' too, for the schema's text.
+/// # Errors
+///
+/// The source is returned beside the error.
+///
+/// - `File` with a fault of the tail if the file doesn't open.
+/// - `File` with `SourceFailed` if the source failed.
+/// - `OutOfMemory` if memory ran out: of `Types` for the schema's text, of `File` otherwise.
+/// - `File` with `WriteFailed` if the output failed. Then a proper prefix of the lines was printed, and nothing after
+///   any other error.
 pub fn show_to<S: Source, W: Write>(
     alloc: Global,
     source: S,
@@ -338,7 +345,7 @@ pub fn show_to<S: Source, W: Write>(
     }
 }
 
-/// Prints what a tail says.
+/// Prints the lines that show a tail.
 fn show_tail<W: Write>(alloc: Global, tail: &Tail, out: &mut W) -> Result<(), CliFault>
     ensures written { OnOk result (Appends (W.contents out.old) (W.contents out.new) (spec.show_lines tail.now)) }
     ensures refused { IfErr result (λ fault.
