@@ -1,4 +1,4 @@
-//! `orcm ints`: the numbers of an integer stream.
+//! `orcm ints`: prints the numbers of an integer stream.
 ghost use Rattle.std.specs.Prelude.{◌≡◌, ◌≢◌, ℤ, List, [], ◌∷◌, ◌++◌, ◌⊎◌, IfOk, OnOk, IfErr, IsErrAnd, MatchResult, string_bytes};
 ghost use Rattle.std.specs.Io.KnownBytes.{Appends, Keeps};
 ghost use Rattle.orc_cli_ints.specs.Ints.{numbers, number_line, IsIntegerStream, StopsIntegers, DigitsSpellInts, StopsInts, IsNoHex, IsWantOfInts, RefusesDigits, RefusesInts};
@@ -17,7 +17,7 @@ use orc_tail::FileFault;
 use std::alloc::{AllocError, Global};
 use std::io::Write;
 
-/// The numbers on one line, one space between.
+/// Returns the line of the numbers, with one space between two.
 fn line_of(alloc: Global, values: &[i64]) -> Result<String, AllocError>
     ensures { IfOk result (λ line. string_bytes line ≡ number_line values.now) }
 {
@@ -32,7 +32,7 @@ fn line_of(alloc: Global, values: &[i64]) -> Result<String, AllocError>
     Ok(line)
 }
 
-/// The values of the runs of that version.
+/// Decodes all runs of a stream, of either version.
 fn decode_all(alloc: Global, rle: Rle, sign: Sign, bytes: &[u8]) -> Result<Vec<i64>, RunFault>
     ensures found { IfOk result (λ decoded. IsIntegerStream rle sign bytes.now decoded.items) }
     ensures only { (values : List ℤ) → IsIntegerStream rle sign bytes.now values
@@ -46,7 +46,7 @@ fn decode_all(alloc: Global, rle: Rle, sign: Sign, bytes: &[u8]) -> Result<Vec<i
     }
 }
 
-/// The values of the runs whose bytes the hexadecimal digits spell, in either case.
+/// Decodes the runs whose bytes hexadecimal digits spell. The digits may be of either case.
 fn values_of(alloc: Global, rle: Rle, sign: Sign, text: &str) -> Result<Vec<i64>, CliFault>
     ensures found { IfOk result (λ found. DigitsSpellInts rle sign text.now found.items) }
     ensures only { (values : List ℤ) → DigitsSpellInts rle sign text.now values → IfErr result IsWantOfMemory }
@@ -68,12 +68,16 @@ fn values_of(alloc: Global, rle: Rle, sign: Sign, text: &str) -> Result<Vec<i64>
     }
 }
 
-/// Writes the numbers that the digits' runs spell, on one line. Nothing is written before all are
-/// decoded.
+/// Prints the numbers of the integer stream whose bytes the hexadecimal digits in `text` spell, on one line. Nothing
+/// is printed before all numbers are decoded.
 ///
-/// Refusals: `BadHex` where `text` isn't hexadecimal, `Run` where its bytes are no stream of runs,
-/// `WriteFailed` with a part of the line written; for want of memory `OutOfMemory`, or `Run` with
-/// that of the decoder.
+/// # Errors
+///
+/// - `Json` with `BadHex` if `text` isn't hexadecimal.
+/// - `Run` with the fault of the first invalid run.
+/// - `OutOfMemory` if memory ran out: of `Run` in the decoder, of `File` otherwise.
+/// - `File` with `WriteFailed` if the output failed. Then a proper prefix of the line was printed, and nothing after
+///   any other error.
 pub fn ints_to<W: Write>(
     alloc: Global,
     rle: Rle,

@@ -1,4 +1,4 @@
-//! The numbers of an integer stream as a line of text.
+//! Prints the numbers of an integer stream as a line of text.
 #![tactic(auto)]
 
 mod ints;
