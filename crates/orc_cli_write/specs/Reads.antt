@@ -1,5 +1,5 @@
--- Lines that are read one after another, from bytes that nobody holds whole: what comes off their front, how a reader's
--- failures count, and why not all of their rows are written.
+-- Lines that are read one after another: what is taken from the front of the bytes, how a reader's failures are
+-- counted, and why not all of the lines' rows are written.
 use Rattle.std.specs.Prelude.{◌≡◌, ◌≢◌, ℕ, ◌+◌, List, [], ◌∷◌, ◌++◌, ◌⊎◌, Option, Some, Result, Ok, Err, Bool, true, false}
 use Rattle.std.specs.Option.{IfSome}
 use Rattle.orc_row_batch.specs.declared.options.Options.{Options}
@@ -18,27 +18,27 @@ use Rattle.orc_tail.specs.declared.fault.FileFault.TheVariants as file
 use Rattle.orc_cli_write.specs.declared.line_fault.LineFault.{LineFault}
 use Rattle.orc_cli_write.specs.declared.line_fault.LineFault.TheVariants.{Failed, OutOfMemory}
 
--- a line with its end comes off the front, or the last one, which has none
+-- a line with its end is taken from the front, or the last line, which has no end
 abbrev pub TakesLine : List ℕ → List ℕ → List ℕ → Type 0
 TakesLine bytes line rest = (bytes ≡ line ++ 10 ∷ rest) ⊎ ((bytes ≡ line) × (line ≢ []) × (rest ≡ []))
 
--- what reading a line says of the bytes that were still to come, and leaves of them: the line, or that there are none
+-- what reading a line returns and leaves of the bytes that remained: the line, or that no bytes remained
 abbrev pub HasRead : Bool → List ℕ → List ℕ → Option (List ℕ) → Type 0
 HasRead true bytes line left = (rest : List ℕ) × (left ≡ Some rest) × IsLine line × TakesLine bytes line rest
 HasRead false bytes line left = bytes ≡ []
 
--- the count after the next line was asked for: the reader fails where it is said to, and not for want of memory
+-- the count of failures after a line was read: it rises with `Failed`, and not for want of memory
 abbrev pub line_failures : {T : Type 0} → Result T LineFault → ℕ → ℕ
 line_failures (Ok _) before = before
 line_failures (Err Failed) before = before + 1
 line_failures (Err OutOfMemory) before = before
 
--- the refusal of `write` where the next line isn't there
+-- the error of `write` if a line can't be read
 abbrev pub refusal_of : LineFault → CliFault
 refusal_of Failed = File file.SourceFailed
 refusal_of OutOfMemory = File file.OutOfMemory
 
--- the rows are those of the first lines, however many
+-- the rows are those of the first n lines, for some n
 pub record BeginWith (s : Shape) (bytes : List ℕ) (rows : List Cell) : Type 0 where
   pub ended : List (List ℕ)
   pub last : List ℕ
@@ -48,16 +48,16 @@ pub record BeginWith (s : Shape) (bytes : List ℕ) (rows : List Cell) : Type 0 
   pub lines_are : ended ++ last ∷ [] ≡ before ++ after
   pub spell : LinesSpell s before rows
 
--- Why no file of this schema is written of lines that are read: as of lines that are held, or reading failed, or memory
--- for a line, behind some lines.
+-- Why no file of this schema is written from lines that are read: for a reason for which none is written from lines
+-- that are held, or because reading failed or there was no memory for a line, after the first n lines.
 abbrev pub EndsReading : Shape → List ℕ → CliFault → List Cell → Type 0
 EndsReading s bytes fault rows = EndsUnder s bytes fault rows ⊎ (IsOfSource fault × BeginWith s bytes rows)
 
--- after a refusal of the source no more is out than the full stripes of the rows that the writer was given
+-- after `SourceFailed` no more was written than the full stripes of the rows given to the writer
 abbrev pub OpenAtSource : Options → Shape → Option (List ℕ) → Option (List ℕ) → CliFault → List Cell → Type 0
 OpenAtSource options s first told fault rows = fault ≡ File file.SourceFailed → StandsOpen options s first told rows
 
--- what stands after a refusal of lines that are read, as after that of a line, or of the source
+-- what was written after an error of lines that are read, as after an error of a line or of the source
 abbrev pub LeavesReading : Options → Shape → Progress → Option (List ℕ) → CliFault → List Cell → Type 0
 LeavesReading options s old told fault own =
     (first : Option (List ℕ)) (rows : List Cell) → HasPushed old first rows
@@ -65,8 +65,8 @@ LeavesReading options s old told fault own =
     × OpenAtLine options s first told fault (rows ++ own)
     × OpenAtSource options s first told fault (rows ++ own)
 
--- Why lines that are read are refused, and what is out then. The bytes are those that were still to come, where the
--- input tells them.
+-- Why writing lines that are read fails, and what was written then. `left` has the bytes that remained, if they are
+-- known.
 abbrev pub RefusesLines : Options → List ℕ → Option (List ℕ) → Option (List ℕ) → Option (List ℕ) → CliFault → Type 0
 RefusesLines options text left old new fault =
     ((why : TypeFault) × (fault ≡ Types why) × TextFault text why × (new ≡ old))

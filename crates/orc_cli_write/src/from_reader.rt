@@ -1,4 +1,4 @@
-//! A file of the rows of lines that are read one after another: one line is held at a time.
+//! Writes a file from lines that are read one after another. One line is held at a time.
 ghost use Rattle.std.specs.Prelude.{◌≡◌, ◌+◌, ◌⊎◌, List, IfOk, IfErr, IfSome, OnOk, false};
 ghost use Rattle.orc_values.specs.Cells.{Cell};
 ghost use Rattle.orc_values.specs.Shapes.{Shape};
@@ -25,7 +25,7 @@ use orc_tail::{FileFault, Tail};
 use orc_types::Schema;
 use std::alloc::Global;
 
-/// Pushes the rows of the lines that are still to come.
+/// Pushes the rows of all lines that are left.
 fn push_read<L: LineReader, W: Sink>(
     alloc: Global,
     lines: &mut L,
@@ -57,18 +57,19 @@ fn push_read<L: LineReader, W: Sink>(
         }
         push_line(alloc, &mut reader, &line, writer)?;
     }
-    // nobody waits for so many lines
+    // no program reads as many lines as this
     Err(CliFault::File(FileFault::OutOfMemory))
 }
 
-/// Writes a file of the rows that lines of JSON spell, as `write_from` does, of lines that are read
-/// one after another: no more than one line of the input is held, beside what the reader itself
-/// holds, and room as long as the longest line for strings with escapes. Also of an input that
-/// tells nothing of its bytes what is written is the whole file of some rows, or after a refusal
-/// the front of one.
+/// Writes a file from lines of JSON, as `write_from` does, but reads the lines one after another. It holds one line
+/// of the input, besides what the reader itself holds, and a buffer as long as the longest line for strings with
+/// escapes. Even if nothing is known of the input's bytes, the output has got the whole file of some rows after a
+/// success, and a prefix of one after an error.
 ///
-/// Refusals: those of `write_from`, and `File` with `SourceFailed` where the input failed, after which it isn't asked
-/// again, and `ORC` and the full stripes of the rows before are written, and neither a last stripe nor a tail.
+/// # Errors
+///
+/// Those of `write_from`, and `File` with `SourceFailed` if the input failed. Then the input isn't read again, and
+/// the output has got `ORC` and the full stripes of the rows before, but neither a last stripe nor a tail.
 pub fn write_lines<L: LineReader, W: Sink>(
     alloc: Global,
     schema: &str,
@@ -91,14 +92,13 @@ pub fn write_lines<L: LineReader, W: Sink>(
     // If the call succeeds, then the input's count of failures is unchanged.
     ensures kept { OnOk result (L.failures lines.new ≡ L.failures lines.old) }
 
-    // An error is `Types` with a fault of the text `schema`, or `schema` is the text of a schema. `Limit` comes
-    // only if a file of the rows given to the writer would pass a limit. If the output's bytes are known, the
-    // output has got nothing after `Types`, exactly `ORC` and the full stripes of the rows given to the writer
-    // after any error of `Json` and after `SourceFailed`, and after any other error a prefix of a file of the
-    // first n of these rows, for some n. If the input's bytes are known, an error other than `Types` is `Json`
-    // with the reason why a line spells no row, `Limit`, `WriteFailed`, `SourceFailed` or `OutOfMemory`, and
-    // the rows given to the writer are those of the lines before the error, including the line with whose row
-    // the writer failed.
+    // An error is `Types` with a fault of the text `schema`, or `schema` is the text of a schema. `Limit` comes only
+    // if a file of the rows given to the writer would pass a limit. If the output's bytes are known, the output has
+    // got nothing after a fault of the text, exactly `ORC` and the full stripes of the rows given to the writer after
+    // any error of `Json` and after `SourceFailed`, and after any other error a prefix of a file of the first n of
+    // these rows, for some n. If the input's bytes are known, an error other than `Types` is `Json` with the reason
+    // why a line spells no row, `Limit`, `WriteFailed`, `SourceFailed` or `OutOfMemory`, and the rows given to the
+    // writer are those of the lines before the error, including the line with whose row the writer failed.
     ensures refused { IfErr result (λ e.
         RefusesLines options schema.now (L.remaining lines.old) (W.told out) (W.told e.1) e.0) }
     // If the error is `SourceFailed`, then the input's count of failures is higher by exactly one.

@@ -1,4 +1,4 @@
-//! Lines of JSON as a file of rows.
+//! Writes files from lines of JSON, one row per line.
 #![tactic(auto)]
 
 mod from_reader;

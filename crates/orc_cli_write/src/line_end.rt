@@ -1,10 +1,10 @@
-//! Where a line ends.
+//! Finds the end of a line.
 ghost use Rattle.std.specs.Prelude.{◌≡◌, ◌<◌, ◌≤◌, length, take, get_or};
 ghost use Rattle.orc_cli_write.specs.Lines.{IsLine};
 
 use memchr::memchr;
 
-/// How many bytes stand before the first end of a line.
+/// Returns the number of bytes before the first line end, or of all bytes if there is none.
 pub(crate) fn line_length(bytes: &[u8]) -> usize
     ensures bound { result ≤ length bytes.now }
     ensures line { IsLine (take result bytes.now) }

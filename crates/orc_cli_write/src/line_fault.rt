@@ -1,10 +1,10 @@
-//! Why the next line isn't there.
+//! The reason why a line could not be read.
 
 use orc_cli_output::CliFault;
 use orc_tail::FileFault;
 
-/// Why the next line isn't there. A command tells it as a fault of the layer of files:
-/// `SourceFailed` where reading failed, and want of memory else.
+/// The reason why a line could not be read. A command reports it as a fault of the layer of files: `SourceFailed` if
+/// reading failed, and `OutOfMemory` if there was no memory for the line.
 #[derive(Clone, Copy, Debug, PartialEq, Eq)]
 pub enum LineFault {
     /// Reading failed.

@@ -1,4 +1,4 @@
-//! A reader of the standard library as lines.
+//! Reads lines from a reader of the standard library.
 ghost use Rattle.std.specs.Prelude.{◌≡◌, ◌++◌, List, ℕ, IfOk, IfSome};
 ghost use Rattle.orc_cli_write.specs.Pieces.{TakesPiece};
 ghost use Rattle.orc_cli_write.specs.Reads.{HasRead};
@@ -9,8 +9,9 @@ use crate::line_reader::LineReader;
 use orc_io::Failures;
 use std::io::{BufRead, ErrorKind};
 
-/// The lines of a reader. They tell the bytes that the reader tells, and fail only where it does. A read that was
-/// interrupted is tried again, as the standard library does, and no other.
+/// The lines of a reader. The bytes that remain are known if the reader's are. Reading lines fails only if the reader
+/// fails or memory runs out. An interrupted read is repeated, as the standard library does; a read that failed
+/// otherwise isn't.
 #[derive(Drop)]
 pub struct StdLines<I: BufRead> {
     input: I,
@@ -18,9 +19,9 @@ pub struct StdLines<I: BufRead> {
 }
 
 impl<I: BufRead> StdLines<I> {
-    /// The lines that are still to come from this reader.
+    /// Makes a reader of the lines that `input` still has.
     pub fn new(input: I) -> StdLines<I>
-        // The lines begin with their reader as it is, and no failure is counted yet.
+        // The new lines have `input` as it is, and no failure is counted yet.
         ensures input { result.input ≡ input }
         ensures fresh { result.failures ≡ 0 }
     {
@@ -45,7 +46,7 @@ impl<I: BufRead> LineReader for StdLines<I> {
     }
 }
 
-/// Puts the next line, without its end, into the vector in place of what it holds, and answers whether there was one.
+/// Replaces the vector's contents by the next line, without its line end. Returns whether there was one.
 fn read_line<I: BufRead>(input: &mut I, line: &mut Vec<u8>) -> Result<bool, LineFault>
     ensures found { IfOk result (λ found. IfSome (I.remaining input.old)
         (λ bytes. HasRead found bytes line.new.items (I.remaining input.new))) }
@@ -58,21 +59,22 @@ fn read_line<I: BufRead>(input: &mut I, line: &mut Vec<u8>) -> Result<bool, Line
             Piece::Nothing => return Ok(!line.is_empty()),
         }
     }
-    // nobody waits for so many pieces
+    // no program reads as many pieces as this
     Err(LineFault::OutOfMemory)
 }
 
-/// What was taken of a line.
+/// The part of a line that was taken.
 enum Piece {
-    /// What stands before its end, and the end.
+    /// The bytes before the line end, and the line end.
     Ended,
-    /// Bytes that its end may stand behind, or none where the read was interrupted.
+    /// Bytes that the line end may follow, or none if the read was interrupted.
     Open,
-    /// Nothing: no byte is left.
+    /// Nothing, because no byte is left.
     Nothing,
 }
 
-/// Takes what the reader holds of a line, and puts it without the line's end behind the vector's bytes.
+/// Takes the bytes of a line that the reader has in its buffer, and appends them, without the line end, to the
+/// vector.
 fn take_piece<I: BufRead>(input: &mut I, line: &mut Vec<u8>) -> Result<Piece, LineFault>
     ensures taken { IfOk result (λ taken. (piece : List ℕ) × (line.new.items ≡ line.old.items ++ piece)
         × IfSome (I.remaining input.old) (λ bytes. TakesPiece taken bytes piece (I.remaining input.new))) }

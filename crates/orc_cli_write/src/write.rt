@@ -1,4 +1,4 @@
-//! `orcm write`: a file of the rows that lines of JSON spell.
+//! `orcm write`: writes a file from lines of JSON.
 ghost use Rattle.std.specs.Prelude.{◌≡◌, ◌≢◌, List, [], IfOk, IfErr, OnOk, false};
 ghost use Rattle.orc_values.specs.Cells.{Cell};
 ghost use Rattle.orc_values.specs.Shapes.{Shape};
@@ -21,7 +21,8 @@ use orc_tail::Tail;
 use orc_types::Schema;
 use std::alloc::Global;
 
-/// Pushes the row of a line, where it isn't empty, in the room of a row that the writer no longer needs.
+/// Pushes the row of a line, unless the line is empty. The row reuses the memory of one that the writer no longer
+/// needs.
 pub(crate) fn push_line<W: Sink>(
     alloc: Global,
     reader: &mut RowReader,
@@ -49,7 +50,7 @@ pub(crate) fn push_line<W: Sink>(
     Ok(())
 }
 
-/// Pushes the rows of lines.
+/// Pushes the rows of all lines.
 fn push_lines<W: Sink>(alloc: Global, input: &[u8], writer: &mut Writer<W>) -> Result<(), CliFault>
     ensures pushed { OnOk result ((own : List Cell) × AreRowsOfLines writer.old.schema input.now own
         × PushesAlso (progress W.told writer.old) (progress W.told writer.new) own) }
@@ -76,17 +77,22 @@ fn push_lines<W: Sink>(alloc: Global, input: &[u8], writer: &mut Writer<W>) -> R
     Ok(())
 }
 
-/// Writes a file of the rows that lines of JSON spell, a row a line. The bytes 0a end lines, the last line
-/// may have no end, and empty lines are skipped. The schema is read first. The output comes back with the
-/// file's tail, or with a refusal.
+/// Writes a file from lines of JSON, one row per line. A line ends with the byte 0a; the last line may have no end,
+/// and empty lines are skipped. The schema is read first. Returns the file's tail and the output.
 ///
-/// Refusals: `Types` where the schema's text tells none, with nothing written; `Json` where a line
-/// spells no row, `Syntax` where it isn't UTF-8 or no JSON, after which `ORC` and the full stripes
-/// of the rows before are written, and neither a last stripe nor a tail; `File` with `WriteFailed`,
-/// `Limit` or `OutOfMemory`, as the writer refuses: `Limit` only where a file of the rows that it
-/// was given passes a limit, of stripes, of rows, of a column's cells in a stripe, or of the
-/// stripes' bytes, and what is out is the front of a file of some of these rows. For want of memory
-/// `OutOfMemory` of the schema's layer, with nothing written, of the line's, or of the writer's.
+/// # Errors
+///
+/// The output is returned beside the error.
+///
+/// - `Types` if `schema` isn't the text of a schema. Then nothing was written.
+/// - `Json` if a line spells no row, with `Syntax` if it isn't UTF-8 or not JSON. Then the output has got `ORC` and
+///   the full stripes of the rows before, but neither a last stripe nor a tail.
+/// - `File` with `Limit` if a file of the rows given to the writer would pass a limit: of stripes, of rows, of a
+///   column's cells in a stripe, or of the stripes' bytes. Then the output has got a prefix of a file of the first n
+///   of these rows, for some n.
+/// - `File` with `WriteFailed` if the output failed. Then too it has got a prefix of a file of the first n rows.
+/// - `OutOfMemory` if memory ran out: of `Types` for the schema, after which nothing was written, of `Json` for a
+///   line, and of `File` in the writer.
 pub fn write_from<W: Sink>(
     alloc: Global,
     schema: &str,
@@ -105,13 +111,13 @@ pub fn write_from<W: Sink>(
     ensures only { (s : Shape) (rows : List Cell) → HasText s schema.now → AreRowsOfLines s input.now rows
         → IfErr result (λ e. IsOfWriter e.0) }
 
-    // An error is `Types` with a fault of the text `schema`, or `schema` is the text of a schema and the error
-    // is `Json` with the reason why a line spells no row, `Limit`, `WriteFailed` or `OutOfMemory`. The rows
-    // given to the writer are those of the lines before the error, including the line with whose row the writer
-    // failed. `Limit` comes only if a file of the rows given to the writer would pass a limit. If the output's
-    // bytes are known, the output has got nothing after `Types`, exactly `ORC` and the full stripes of the rows
-    // given to the writer after any error of `Json`, and after any other error a prefix of a file of the first
-    // n of these rows, for some n.
+    // An error is `Types` with a fault of the text `schema`, or `schema` is the text of a schema and the error is
+    // `Json` with the reason why a line spells no row, `Limit`, `WriteFailed` or `OutOfMemory`. The rows given to the
+    // writer are those of the lines before the error, including the line with whose row the writer failed. `Limit`
+    // comes only if a file of the rows given to the writer would pass a limit. If the output's bytes are known, the
+    // output has got nothing after a fault of the text, exactly `ORC` and the full stripes of the rows given to the
+    // writer after any error of `Json`, and after any other error a prefix of a file of the first n of these rows,
+    // for some n.
     ensures refused { IfErr result (λ e. RefusesWrite options schema.now input.now (W.told out) (W.told e.1) e.0) }
     // The output's count of failures rises with `WriteFailed`, and stays the same after a success and after
     // `OutOfMemory`.
