@@ -1,4 +1,4 @@
--- The command line as the parser's table: the commands, and the arguments of each by their names.
+-- The command line as the parser's table: the commands, and the arguments of each by name.
 use Rattle.std.specs.Prelude.{◌≡◌, ℕ, List, [], ◌∷◌, Some, true, false, codes}
 use Rattle.std.specs.Borrow.{Bor}
 use Rattle.clap.specs.Lexer.{usize_max}
@@ -10,7 +10,7 @@ use Rattle.orc_rle.specs.declared.sign.Rle.TheVariants.{One, Two}
 use Rattle.orc_rle.specs.declared.sign.Sign.TheVariants.{Signed, Unsigned as UnsignedNumbers}
 use Rattle.orc_cli_parser.specs.OptionWords.{version_word, sign_word}
 
--- texts as the parser holds them
+-- texts as the parser stores them
 abbrev pub Words : Type 0
 Words = Bor (List (Bor Text))
 
@@ -18,37 +18,37 @@ Words = Bor (List (Bor Text))
 abbrev pub HasVersions : Words → Type 0
 HasVersions words = texts words.now ≡ version_word One ∷ version_word Two ∷ []
 
--- those that `--sign` takes
+-- the words that `--sign` takes
 abbrev pub HasSigns : Words → Type 0
 HasSigns words = texts words.now ≡ sign_word Signed ∷ sign_word UnsignedNumbers ∷ []
 
 -- ---- arguments
 
--- one that has to be there, with a value
+-- an argument that must be given, with a value
 abbrev pub needed : Text → Rule
 needed name = record (new_rule name) { action = Some Set; value_names = 1; required = true }
 
--- one that may be left out, with a value
+-- an argument that may be left out, with a value
 abbrev pub optional : Text → Rule
 optional name = record (new_rule name) { action = Some Set; value_names = 1 }
 
--- one that may be left out, without a value
+-- an argument that may be left out, without a value
 abbrev pub switch : Text → Rule
 switch name = record (new_rule name) { action = Some SetTrue }
 
--- it goes by its name, behind `--`
+-- an argument that is given by `--` and its name
 abbrev pub named : Rule → Rule
 named rule = record rule { long = Some rule.id }
 
--- its value is one of these words
+-- an argument whose value is one of these words
 abbrev pub one_of : Words → Rule → Rule
 one_of words rule = record rule { parser = Some (Names words) }
 
--- its value is a number within these
+-- an argument whose value is a number from `least` to `most`
 abbrev pub between : ℕ → ℕ → Rule → Rule
 between least most rule = record rule { parser = Some (Unsigned least most) }
 
--- the last words, however many
+-- an argument that takes all remaining words, perhaps none
 abbrev pub all_of : Text → Rule
 all_of name = record (new_rule name) {
   action = Some Append;
@@ -58,7 +58,7 @@ all_of name = record (new_rule name) {
 
 -- ---- commands
 
--- whether to show how far a command is
+-- the flag that shows progress
 abbrev pub progress_rule : Rule
 progress_rule = named (switch (codes "progress"))
 
@@ -73,7 +73,7 @@ ints_line versions signs = command (codes "ints")
     ∷ one_of signs (named (needed (codes "sign")))
     ∷ needed (codes "hex") ∷ [])
 
--- `rows`: where to start, if it says so, the flag for progress, and a file
+-- `rows`: the stripe and group to start at, if given, the flag for progress, and a file
 abbrev pub rows_line : Shape
 rows_line = command (codes "rows")
     (named (optional (codes "from")) ∷ progress_rule ∷ needed (codes "file") ∷ [])
@@ -86,7 +86,8 @@ show_line = command (codes "show") (needed (codes "file") ∷ [])
 abbrev pub check_line : Shape
 check_line = command (codes "check") (progress_rule ∷ needed (codes "file") ∷ [])
 
--- `write`: a schema, the version, the stride, the rows of a stripe, the flag for progress, the lines' file and the new one
+-- `write`: a schema, the version, the stride, the number of rows per stripe, the flag for progress, the input and the
+-- output
 abbrev pub write_line : Words → Shape
 write_line versions = command (codes "write")
     (named (needed (codes "schema"))
@@ -96,7 +97,7 @@ write_line versions = command (codes "write")
     ∷ progress_rule
     ∷ needed (codes "in") ∷ needed (codes "out") ∷ [])
 
--- `merge`: the flag for progress, the new file and the inputs
+-- `merge`: the flag for progress, the output and the inputs
 abbrev pub merge_line : Shape
 merge_line = command (codes "merge") (progress_rule ∷ needed (codes "out") ∷ all_of (codes "in") ∷ [])
 
@@ -109,7 +110,7 @@ pub record Choices : Type 0 where
   pub of_sign : HasSigns ints_signs
   pub of_write : HasVersions write_versions
 
--- the program: one of its commands has to be named
+-- the program, which needs one of its commands
 abbrev pub orcm : Choices → App
 orcm choices = record {
   top = record (new_shape (codes "orcm")) { has_version = true; subcommand_required = true; is_leaf = false };

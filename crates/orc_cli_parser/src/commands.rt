@@ -1,4 +1,4 @@
-//! The parser's table: the commands of the program and their arguments, with what its help says of each.
+//! The parser's table: the commands of the program, their arguments, and the help of each.
 ghost use Rattle.std.specs.Prelude.{◌≡◌, Ok, IfOk, IfErr, false, codes};
 ghost use Rattle.clap.specs.Values.{kind_of};
 ghost use Rattle.clap.specs.Walk.{rule_of};
@@ -18,7 +18,7 @@ use clap::{Arg, ArgAction, Command, Error};
 use orc_values::MOST_STRIPE_ROWS;
 use std::alloc::Global;
 
-/// The program's own version.
+/// The version of the program.
 const VERSION: &str = "0.3.0";
 
 /// The words that `--rle` takes.
@@ -27,14 +27,19 @@ pub static VERSIONS: [&str; 2] = ["1", "2"];
 /// The words that `--sign` takes.
 pub static SIGNS: [&str; 2] = ["s", "u"];
 
-/// After how many rows a group of the row index may begin at most.
+/// The greatest number of rows in a group of the row index.
 pub const MOST_STRIDE: u64 = 4_294_967_295;
 
-/// The program, one of whose commands has to be named.
+/// Makes the parser of the program's command line, which must name one of its commands.
+///
+/// # Errors
+///
+/// Fails only for want of memory.
 pub fn orcm<'a>(alloc: Global) -> Result<Command<'a>, Error>
-    // A command that is returned has the program's table, with the words that `--rle` and `--sign` take.
+    // If the call succeeds, then the returned command has the program's table, with the words that `--rle` and
+    // `--sign` take.
     ensures table { IfOk result (λ command. (choices : Choices) × (app_of command ≡ spec.orcm choices)) }
-    // A refusal is want of memory.
+    // An error is want of memory.
     ensures memory { IfErr result (λ error. kind_of error ≡ kind.OutOfMemory) }
 {
     let program = Command::new(alloc, "orcm")
@@ -51,7 +56,7 @@ pub fn orcm<'a>(alloc: Global) -> Result<Command<'a>, Error>
     with_command(program, merge_command(alloc))
 }
 
-/// The program with one more command, if there was memory for that one.
+/// Adds a command to the program, if there was memory to make the command.
 fn with_command<'a>(
     program: Command<'a>,
     command: Result<Command<'a>, Error>,
@@ -65,7 +70,7 @@ fn with_command<'a>(
     Ok(program.subcommand(command?)?)
 }
 
-/// An argument that has to be there.
+/// Makes an argument that must be given.
 fn needed_argument<'a>(
     alloc: Global,
     name: &'static str,
@@ -82,7 +87,7 @@ fn needed_argument<'a>(
         .help(help)
 }
 
-/// An option that takes one of these words, and has to be there.
+/// Makes an option that must be given and takes one of these words.
 fn word_option<'a>(
     alloc: Global,
     name: &'static str,
@@ -98,7 +103,7 @@ fn word_option<'a>(
         .value_parser(words)
 }
 
-/// An option that takes a number, and has to be there.
+/// Makes an option that must be given and takes a number from `least` to `most`.
 fn number_option<'a>(
     alloc: Global,
     name: &'static str,
@@ -114,7 +119,7 @@ fn number_option<'a>(
         .value_parser(ValueParser::unsigned(least, most))
 }
 
-/// The version of the integer run lengths.
+/// Makes the option for the version of the integer run lengths.
 fn version_option<'a>(alloc: Global) -> Arg<'a>
     ensures rule { (words : Words) × HasVersions words
         × (rule_of result ≡ one_of words (named (needed (codes "rle")))) }
@@ -129,7 +134,7 @@ fn version_option<'a>(alloc: Global) -> Arg<'a>
     )
 }
 
-/// Whether integers are signed.
+/// Makes the option for signed or unsigned numbers.
 fn sign_option<'a>(alloc: Global) -> Arg<'a>
     ensures rule { (words : Words) × HasSigns words
         × (rule_of result ≡ one_of words (named (needed (codes "sign")))) }
@@ -165,7 +170,7 @@ fn ints_command<'a>(alloc: Global) -> Result<Command<'a>, Error>
     )
 }
 
-/// Whether to show how far the command is.
+/// Makes the flag that shows progress.
 fn progress_flag<'a>(alloc: Global) -> Arg<'a>
     ensures rule { rule_of result ≡ progress_rule }
     ensures local { result.global ≡ false }
@@ -176,7 +181,7 @@ fn progress_flag<'a>(alloc: Global) -> Arg<'a>
         .help(PROGRESS)
 }
 
-/// The ORC file that a command reads.
+/// Makes the argument for the ORC file that a command reads.
 fn file_word<'a>(alloc: Global) -> Arg<'a>
     ensures rule { rule_of result ≡ needed (codes "file") }
     ensures local { result.global ≡ false }
@@ -184,7 +189,7 @@ fn file_word<'a>(alloc: Global) -> Arg<'a>
     needed_argument(alloc, "file", "FILE", "Input file (ORC)")
 }
 
-/// Where to start to read.
+/// Makes the option for the stripe and row group to start at.
 fn from_option<'a>(alloc: Global) -> Arg<'a>
     ensures rule { rule_of result ≡ named (optional (codes "from")) }
     ensures local { result.global ≡ false }
@@ -238,7 +243,7 @@ fn check_command<'a>(alloc: Global) -> Result<Command<'a>, Error>
     )
 }
 
-/// The schema of the rows.
+/// Makes the option for the schema of the rows.
 fn schema_option<'a>(alloc: Global) -> Arg<'a>
     ensures rule { rule_of result ≡ named (needed (codes "schema")) }
     ensures local { result.global ≡ false }
@@ -252,7 +257,7 @@ fn schema_option<'a>(alloc: Global) -> Arg<'a>
     .long("schema")
 }
 
-/// After how many rows the row index has an entry.
+/// Makes the option for the number of rows per row index entry.
 fn stride_option<'a>(alloc: Global) -> Arg<'a>
     ensures rule { rule_of result ≡ between 0 4294967295 (named (needed (codes "stride"))) }
     ensures local { result.global ≡ false }
@@ -266,7 +271,7 @@ fn stride_option<'a>(alloc: Global) -> Arg<'a>
     )
 }
 
-/// After how many rows a stripe ends.
+/// Makes the option for the number of rows per stripe.
 fn stripe_rows_option<'a>(alloc: Global) -> Arg<'a>
     ensures rule { rule_of result ≡ between 1 2147483647 (named (needed (codes "stripe-rows"))) }
     ensures local { result.global ≡ false }
@@ -300,7 +305,7 @@ fn write_command<'a>(alloc: Global) -> Result<Command<'a>, Error>
     )
 }
 
-/// The files that are joined.
+/// Makes the argument for the files that are joined.
 fn inputs_word<'a>(alloc: Global) -> Arg<'a>
     ensures rule { rule_of result ≡ all_of (codes "in") }
     ensures local { result.global ≡ false }

@@ -1,12 +1,12 @@
-//! What the help texts say behind the commands and options: facts that have no place beside one argument, and an
-//! example. A user who has the program alone has no folder of the project, so texts name its pages, and no paths.
+//! The texts that help prints after the commands and options: facts that don't belong to one argument, and an
+//! example. A user who has only the program has no folder of the project, so the texts name its pages, but no paths.
 
-/// What `--progress` does.
+/// The help of `--progress`.
 pub(crate) static PROGRESS: &str =
     "Show progress in one line on standard error, at most once a second;
 it is written over itself and wiped before the end";
 
-/// What stands behind the help text of the program.
+/// The text after the help of the program.
 pub(crate) static PROGRAM_HELP: &str = "Exit status:
   0  success
   1  refused; one line on standard error names the error
@@ -19,13 +19,13 @@ each error.
 Example: joins the files of a day, and keeps the result if it is right
   orcm merge day.tmp hours/*.orc && orcm check day.tmp && mv day.tmp day.orc";
 
-/// What stands behind that of `ints`.
+/// The text after the help of `ints`.
 pub(crate) static INTS_HELP: &str = "All numbers are printed on one line, with a space between two.
 
 Example: prints 23713 43806 57005 48879
   orcm ints --rle 2 --sign u 5e035ca1ab1edeadbeef";
 
-/// What stands behind that of `rows`.
+/// The text after the help of `rows`.
 pub(crate) static ROWS_HELP: &str =
     "An object has all fields of its struct, in the order of the names' bytes. A map is an array of its
 pairs, each an array of a key and its value. Binary values are hexadecimal digits. A date is a
@@ -38,7 +38,7 @@ aren't read. The file must have a row index.
 Example: prints the rows of the third stripe and all after it
   orcm rows --from 2:0 sales.orc";
 
-/// What stands behind that of `show`.
+/// The text after the help of `show`.
 pub(crate) static SHOW_HELP: &str =
     "There is one line each for the schema, the version, the writer, the number of rows and the stride.
 Then comes one line for each entry of user metadata, each stripe and each column. The line of a
@@ -48,7 +48,7 @@ is read.
 Example: prints the number of rows
   orcm show sales.orc | sed -n 's/^rows //p'";
 
-/// What stands behind that of `check`.
+/// The text after the help of `check`.
 pub(crate) static CHECK_HELP: &str =
     "One line is printed for each finding: its name, then the numbers of the stripe, the column and the
 row group, counted from 0. Column 0 is the row itself.
@@ -63,7 +63,7 @@ The exit status is 3 if there is a finding and 0 if there is none.
 Example: says whether all is right
   orcm check sales.orc && echo right";
 
-/// What stands behind that of `write`.
+/// The text after the help of `write`.
 pub(crate) static WRITE_HELP: &str =
     "A schema is a struct of named fields. The kinds are boolean, tinyint, smallint, int, bigint, date,
 string, binary, array<KIND>, map<KIND,KIND> and struct<NAME:KIND,..>.
@@ -81,7 +81,7 @@ Example: writes a file of rows such as {\"city\":\"Oslo\",\"sold\":[1990,450]}
   orcm write --schema 'struct<city:string,sold:array<bigint>>' --rle 2 --stride 10000 \\
       --stripe-rows 100000 sales.json sales.orc";
 
-/// What stands behind that of `merge`.
+/// The text after the help of `merge`.
 pub(crate) static MERGE_HELP: &str =
     "The inputs must have the same schema, version, writer, stride and other footer fields, and the
 statistics of each stripe. No two may give one key of the user metadata different values. All inputs

@@ -1,4 +1,4 @@
-//! The parser of the command line: its table of commands and arguments, and what its help says.
+//! The parser of the command line: its table of commands and arguments, and its help.
 #![tactic(auto)]
 
 mod commands;
