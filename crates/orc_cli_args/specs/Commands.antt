@@ -1,4 +1,4 @@
--- What is found in the words of a command line, and what they ask for, by the parser's table.
+-- What the parser's table finds in the words of a command line, and what they ask for.
 use Rattle.std.specs.Prelude.{◌≡◌, ◌≢◌, List, [], ◌⊎◌}
 use Rattle.clap.specs.Walk.{Text, rows_of}
 use Rattle.clap.specs.Simple.{matches_of, subcommand_of, subcommand_rows_of}
@@ -17,7 +17,8 @@ use Rattle.orc_cli_args.specs.declared.command_line.Refusal.{Refusal}
 use Rattle.orc_cli_args.specs.declared.command_line.Refusal.TheVariants.{Fault, NotUnderstood}
 use Rattle.orc_cli_parser.specs.Commands.{Choices, orcm}
 
--- the words have no fault, and what the parser finds in them is this: of the program's own, and of the command's
+-- The words have no fault, and the parser finds these arguments in them: those of the program, and those of the
+-- command.
 pub record IsFound (words : List Text) (m : ArgMatches) : Type 0 where
   pub choices : Choices
   pub faultless : fault_of (orcm choices) words ≡ []
@@ -28,16 +29,17 @@ pub record IsFound (words : List Text) (m : ArgMatches) : Type 0 where
 abbrev pub WordsFail : List Text → ErrorKind → Type 0
 WordsFail words kind = (choices : Choices) × IsAmong kind (fault_of (orcm choices) words)
 
--- help or the version is asked for
+-- the words ask for help or the version
 abbrev pub AsksText : List Text → Type 0
 AsksText words = WordsFail words DisplayHelp ⊎ WordsFail words DisplayVersion
 
--- what the words ask for: what is found in them, or a text
+-- what the words ask for: a request with what is found in them, or a text
 abbrev pub IsAskedIn : List Text → Asked → Type 0
 IsAskedIn words (asked.Request m) = IsFound words m
 IsAskedIn words asked.Text = AsksText words
 
--- why nothing is done: the words have a fault, or there was no memory, or a text that was asked for didn't go out
+-- Why nothing is done: the words have a fault, or memory ran out, or a text that the words ask for could not be
+-- printed.
 abbrev pub IsNotAskedIn : List Text → Refusal → Type 0
 IsNotAskedIn words NotUnderstood =
     (kind : ErrorKind) × WordsFail words kind × (kind ≢ DisplayHelp) × (kind ≢ DisplayVersion)

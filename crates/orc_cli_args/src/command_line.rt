@@ -1,4 +1,4 @@
-//! The command line: how its words are read.
+//! Reads the words of a command line.
 ghost use Rattle.std.specs.Prelude.{◌≡◌, ◌⊎◌, IfOk, IfErr, map, string_bytes};
 ghost use Rattle.clap.specs.Values.{kind_of};
 ghost use Rattle.clap.specs.declared.error.kind.ErrorKind.TheVariants as kind;
@@ -20,18 +20,18 @@ use std::{env, io};
 
 /// What the words of a command line ask for.
 pub enum Asked<'a> {
-    /// A request, as the parser found it.
+    /// A request, as the parser found it in the words.
     Request(ArgMatches<'a>),
-    /// A text of the parser, help or version, which is on the standard output by now.
+    /// A text, help or the version, which is on standard output already.
     Text,
 }
 
 /// Why a command line isn't carried out.
 #[derive(Clone, Copy, Debug, PartialEq, Eq)]
 pub enum Refusal {
-    /// The request was refused, or memory ran out before the words were read.
+    /// The request failed, or memory ran out before the words were read.
     Fault(CliFault),
-    /// The words are no request, and the standard error says why.
+    /// The words aren't a request. Standard error says why already.
     NotUnderstood,
 }
 
@@ -46,9 +46,13 @@ impl From<CliFault> for Refusal {
     }
 }
 
-/// The words that the program was started with, its own name first.
+/// Returns the words that the program was started with. The first is its name.
+///
+/// # Errors
+///
+/// `NotUnderstood` if a word isn't UTF-8, which standard error says already; or `OutOfMemory`.
 pub fn words_of<R: Env + AllocGlobal + Eprint>(rt: &R) -> Result<Vec<String>, Refusal>
-    // A refusal is NotUnderstood or want of memory, and no other.
+    // An error is `NotUnderstood` or `OutOfMemory`.
     ensures { IfErr result (λ refusal. (refusal ≡ NotUnderstood) ⊎ (refusal ≡ Fault (File file.OutOfMemory))) }
 {
     let words = match env::args(rt) {
@@ -67,17 +71,22 @@ pub fn words_of<R: Env + AllocGlobal + Eprint>(rt: &R) -> Result<Vec<String>, Re
     }
 }
 
-/// What the words ask for. A text of the parser goes to the standard output where it was asked for, and
-/// else to the standard error.
+/// Returns what the words ask for. If they ask for help or the version, then this text is printed to standard output.
+/// If they have a fault, then it is explained on standard error.
+///
+/// # Errors
+///
+/// `NotUnderstood` if the words have a fault, `WriteFailed` if a text that they ask for could not be printed, and
+/// `OutOfMemory` if memory ran out.
 pub fn read_words<'a, R: AllocGlobal + Print + Eprint>(
     rt: &R,
     words: &'a [String],
 ) -> Result<Asked<'a>, Refusal>
-    // Words that are answered ask for a request, as the parser found it, or for a text, which is
-    // help or the version.
+    // If the call succeeds, then the words have no fault and the request has what the parser finds in them, or the
+    // words ask for help or the version.
     ensures asked { IfOk result (IsAskedIn (map (λ word. string_bytes word) words.entry.now)) }
-    // Words that are refused as NotUnderstood have a fault that is no text; else there was no
-    // memory, or they ask for a text and the refusal is WriteFailed.
+    // An error is `NotUnderstood`, only if the words have a fault that isn't a request for help or the version;
+    // `OutOfMemory`; or `WriteFailed`, only if the words ask for help or the version.
     ensures refused { IfErr result (IsNotAskedIn (map (λ word. string_bytes word) words.entry.now)) }
 {
     let error = match matches_of(rt.alloc(), words) {
@@ -97,9 +106,9 @@ pub fn read_words<'a, R: AllocGlobal + Print + Eprint>(
     }
 }
 
-/// Says on the standard error why the words aren't understood.
+/// Prints to standard error why the words aren't understood.
 fn say_why<R: Print + Eprint>(rt: &R, words: &[String], error: &Error) {
-    // (`-1` is an unknown option to the parser, whose advice is of no use if it stands for a number)
+    // the parser takes `-1` for an unknown option, and its advice doesn't help if `-1` was meant as a number
     let negative = match error.kind() {
         ErrorKind::UnknownArgument => negative_number(words),
         _ => None,
@@ -123,7 +132,7 @@ fn say_why<R: Print + Eprint>(rt: &R, words: &[String], error: &Error) {
     }
 }
 
-/// A number below zero in the place of an option's number, and which numbers the option takes.
+/// A negative number in place of an option's number, and the range of numbers that the option takes.
 #[derive(Clone, Copy)]
 struct NegativeNumber<'w> {
     option: &'w str,
@@ -132,7 +141,8 @@ struct NegativeNumber<'w> {
     most: u64,
 }
 
-/// The first number below zero among the words of `write`, if the word before it is an option that takes numbers.
+/// Returns the first negative number among the words of `write`, if the word before it is an option that takes
+/// numbers.
 fn negative_number(words: &[String]) -> Option<NegativeNumber<'_>> {
     if words.get(1)?.as_str() != "write" {
         return None;
@@ -152,7 +162,7 @@ fn negative_number(words: &[String]) -> Option<NegativeNumber<'_>> {
     })
 }
 
-/// Whether the word is a minus and digits.
+/// Returns whether the word is a minus followed by digits.
 fn is_negative(word: &str) -> bool {
     match word.strip_prefix('-') {
         Some(digits) => !digits.is_empty() && digits.bytes().all(|byte| byte.is_ascii_digit()),
@@ -160,17 +170,20 @@ fn is_negative(word: &str) -> bool {
     }
 }
 
-/// What the parser finds in the words, or a fault that they have. Want of memory is one of the
-/// parser's faults.
+/// Returns what the parser finds in the words.
 ///
-/// The parser's table has the six commands, of each its arguments, and which of them are needed;
-/// the words that `--rle` and `--sign` take; the ranges of the numbers of `--stride` and
-/// `--stripe-rows`; and of `merge` any number of inputs.
+/// The parser's table has the six commands, the arguments of each and whether they must be given, the words that
+/// `--rle` and `--sign` take, and the ranges of the numbers of `--stride` and `--stripe-rows`. `merge` takes any
+/// number of inputs.
+///
+/// # Errors
+///
+/// A fault of the words by the parser's table, or want of memory.
 pub fn matches_of<'a, S: AsStr>(alloc: Global, words: &'a [S]) -> Result<ArgMatches<'a>, Error>
-    // What is found is what the parser's table gives: the program's and the command's arguments,
-    // with their values in order, and the words have no fault by it.
+    // If the call succeeds, then the words have no fault by the parser's table, and what is returned has the
+    // arguments of the program and of the command, with their values in order, that this table gives.
     ensures found { IfOk result (IsFound (map S.text words.entry.now)) }
-    // A refusal is want of memory, or of a kind of fault that the words have by that table.
+    // An error is want of memory, or of the kind of a fault that the words have by the parser's table.
     ensures refused { IfErr result (λ error. (kind_of error ≡ kind.OutOfMemory)
         ⊎ WordsFail (map S.text words.entry.now) (kind_of error)) }
 {

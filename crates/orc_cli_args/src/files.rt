@@ -1,4 +1,4 @@
-//! The files that a command names.
+//! Opens the files that a command names.
 ghost use Rattle.std.specs.Prelude.{◌≡◌, IfOk, IfErr, true};
 ghost use Rattle.std.specs.Fs.{new_options, with_write, with_create_new};
 ghost use Rattle.orc_tail.specs.declared.fault.FileFault.TheVariants.{SourceFailed, WriteFailed};
@@ -10,8 +10,8 @@ use orc_tail::FileFault;
 use std::fs::{self, File, OpenOptions};
 use std::rt::Files;
 
-/// Whether the path names a regular file, or a link to one. It is looked at and not opened, since opening a pipe waits
-/// until somebody writes to it.
+/// Returns whether the path names a regular file, or a link to one. It isn't opened for that, because opening a pipe
+/// waits until somebody writes to it.
 fn is_regular<R: Files<File = File>>(rt: &R, path: &str) -> bool {
     match fs::metadata(rt, path) {
         Ok(found) => found.is_file(),
@@ -19,14 +19,14 @@ fn is_regular<R: Files<File = File>>(rt: &R, path: &str) -> bool {
     }
 }
 
-/// The file of that path, found now. A folder, a pipe or a device has no places to read from.
+/// Finds the file at this path. A folder, a pipe and a device can't be read at a place, so each of them is an error.
 pub fn source_of<'a, R: Files<File = File>>(
     rt: &'a R,
     path: &'a str,
 ) -> Result<FileSource<'a, R>, CliFault>
-    // A returned source is of the file with the path `path`.
+    // A returned source has the path that was given.
     ensures path { IfOk result (λ source. source.path.now ≡ path.now) }
-    // The only error is `SourceFailed`.
+    // An error is `SourceFailed`.
     ensures fault { IfErr result (λ fault. fault ≡ FileFaulted SourceFailed) }
 {
     if !is_regular(rt, path) {
@@ -38,7 +38,7 @@ pub fn source_of<'a, R: Files<File = File>>(
     }
 }
 
-/// How a file that a command makes is opened: it must not be there yet.
+/// Returns the options with which a command's output file is opened: it must not exist.
 fn as_new_file() -> OpenOptions
     ensures { result ≡ with_create_new (with_write new_options true) true }
 {
@@ -47,10 +47,9 @@ fn as_new_file() -> OpenOptions
     options
 }
 
-/// A new file of that path. It is opened as a new one, so that a file which is there isn't opened,
-/// and stays as it is.
+/// Makes a new file at this path. A file that exists isn't opened and stays as it is.
 pub fn new_file<R: Files<File = File>>(rt: &R, path: &str) -> Result<File, CliFault>
-    // The one refusal is WriteFailed.
+    // An error is `WriteFailed`.
     ensures { IfErr result (λ fault. fault ≡ FileFaulted WriteFailed) }
 {
     match as_new_file().open(rt, path) {

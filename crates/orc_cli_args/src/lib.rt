@@ -1,4 +1,4 @@
-//! What a command line asks for, and the files that it names.
+//! Reads command lines, and opens the files that they name.
 #![tactic(auto)]
 
 mod command_line;

@@ -1,4 +1,4 @@
-//! What a command line can ask for, and what the words of its options stand for.
+//! The requests of a command line, and what the words of its options stand for.
 ghost use Rattle.std.specs.Prelude.{◌≡◌, ◌<◌, ◌^◌, ◌↔◌, ℕ, List, Some, IsSome, IsTrue, IfSome, IfNone, option_map, codes};
 ghost use Rattle.clap.specs.Matches.{found_of, first_value, subcommand_name_of};
 ghost use Rattle.clap.specs.Walk.{rows_of as found_rows};
@@ -18,43 +18,44 @@ use orc_cli_output::number_of;
 use orc_rle::{Rle, Sign};
 use orc_row_batch::Options;
 
-/// What a command line asks for. Its words are `'a`'s, and lists of them stand in what the parser found.
+/// A request of a command line. Its words have the lifetime `'a`, and lists of words are part of what the parser
+/// found.
 #[derive(Clone, Copy, Debug, PartialEq, Eq)]
 pub enum Request<'m, 'a> {
-    /// The numbers of an integer stream, whose bytes are given in hexadecimal digits.
+    /// Print the numbers of an integer stream, whose bytes are given in hexadecimal digits.
     Ints {
         rle: Rle,
         sign: Sign,
         hex: &'a str,
     },
-    /// The rows of a file, from the place on that a text names, if there is one.
+    /// Print the rows of a file, from the stripe and group on that a text names, if there is one.
     Rows {
         file: &'a str,
         from: Option<&'a str>,
     },
-    /// What a file says of itself.
+    /// Print the tail of a file.
     Show {
         file: &'a str,
     },
-    /// What a file says of itself and is not so.
+    /// Check the statistics and row indexes of a file.
     Check {
         file: &'a str,
     },
-    /// A file of the rows that lines spell.
+    /// Write a file from lines of JSON.
     Write {
         schema: &'a str,
         options: Options,
         input: &'a str,
         output: &'a str,
     },
-    /// A file that the inputs are joined into, in this order.
+    /// Join the inputs, in this order, into a file.
     Merge {
         output: &'a str,
         inputs: &'m [&'a str],
     },
 }
 
-/// The version of the integer run lengths that a word of `--rle` stands for.
+/// Returns the version of the integer run lengths that a word of `--rle` stands for.
 fn version_of(word: &str) -> Option<Rle>
     ensures found { IfSome result (λ rle. word.now ≡ version_word rle) }
     ensures only { (rle : Rle) → word.now ≡ version_word rle → result ≡ Some rle }
@@ -66,7 +67,7 @@ fn version_of(word: &str) -> Option<Rle>
     }
 }
 
-/// Whether a word of `--sign` stands for signed or unsigned numbers.
+/// Returns the sign that a word of `--sign` stands for.
 fn sign_of(word: &str) -> Option<Sign>
     ensures found { IfSome result (λ sign. word.now ≡ sign_word sign) }
     ensures only { (sign : Sign) → word.now ≡ sign_word sign → result ≡ Some sign }
@@ -78,7 +79,7 @@ fn sign_of(word: &str) -> Option<Sign>
     }
 }
 
-/// What the options of `ints` ask for.
+/// Returns the request of the words of `ints`.
 fn ints_of<'m, 'a>(found: &'m ArgMatches<'a>) -> Option<Request<'m, 'a>>
     ensures name { IfSome result (λ request. command_word request ≡ codes "ints") }
     ensures found { IfSome result (Asks (found_of found.now)) }
@@ -92,7 +93,7 @@ fn ints_of<'m, 'a>(found: &'m ArgMatches<'a>) -> Option<Request<'m, 'a>>
     })
 }
 
-/// What the words of `rows` ask for.
+/// Returns the request of the words of `rows`.
 fn rows_of<'m, 'a>(found: &'m ArgMatches<'a>) -> Option<Request<'m, 'a>>
     ensures name { IfSome result (λ request. command_word request ≡ codes "rows") }
     ensures found { IfSome result (Asks (found_of found.now)) }
@@ -104,7 +105,7 @@ fn rows_of<'m, 'a>(found: &'m ArgMatches<'a>) -> Option<Request<'m, 'a>>
     })
 }
 
-/// What the words of `show` ask for.
+/// Returns the request of the words of `show`.
 fn show_of<'m, 'a>(found: &'m ArgMatches<'a>) -> Option<Request<'m, 'a>>
     ensures name { IfSome result (λ request. command_word request ≡ codes "show") }
     ensures found { IfSome result (Asks (found_of found.now)) }
@@ -114,7 +115,7 @@ fn show_of<'m, 'a>(found: &'m ArgMatches<'a>) -> Option<Request<'m, 'a>>
     Some(Request::Show { file })
 }
 
-/// What the words of `check` ask for.
+/// Returns the request of the words of `check`.
 fn check_of<'m, 'a>(found: &'m ArgMatches<'a>) -> Option<Request<'m, 'a>>
     ensures name { IfSome result (λ request. command_word request ≡ codes "check") }
     ensures found { IfSome result (Asks (found_of found.now)) }
@@ -124,8 +125,8 @@ fn check_of<'m, 'a>(found: &'m ArgMatches<'a>) -> Option<Request<'m, 'a>>
     Some(Request::Check { file })
 }
 
-/// What the words of `write` ask for. Nothing where a number isn't written in decimal digits alone, or isn't one that
-/// files are written with.
+/// Returns the request of the words of `write`, or `None` if a number isn't written in decimal digits alone, or is
+/// out of range.
 fn write_of<'m, 'a>(found: &'m ArgMatches<'a>) -> Option<Request<'m, 'a>>
     ensures name { IfSome result (λ request. command_word request ≡ codes "write") }
     ensures found { IfSome result (Asks (found_of found.now)) }
@@ -143,7 +144,7 @@ fn write_of<'m, 'a>(found: &'m ArgMatches<'a>) -> Option<Request<'m, 'a>>
     })
 }
 
-/// What the words of `merge` ask for. There may be no input.
+/// Returns the request of the words of `merge`. There may be no inputs.
 fn merge_of<'m, 'a>(found: &'m ArgMatches<'a>) -> Option<Request<'m, 'a>>
     ensures name { IfSome result (λ request. command_word request ≡ codes "merge") }
     ensures found { IfSome result (Asks (found_of found.now)) }
@@ -154,17 +155,17 @@ fn merge_of<'m, 'a>(found: &'m ArgMatches<'a>) -> Option<Request<'m, 'a>>
     Some(Request::Merge { output, inputs })
 }
 
-/// What the words ask for, if anything. A command line with all that its command needs is
-/// understood. The numbers of `write` are decimal digits alone, with zeros in front or not and
-/// without a sign, and have to be ones that files are written with.
+/// Returns the request of the words, if they have all that their command needs. A number of `write` must be decimal
+/// digits alone, with or without leading zeros and without a sign, and must be in range.
 pub fn request_of<'m, 'a>(matches: &'m ArgMatches<'a>) -> Option<Request<'m, 'a>>
-    // A request is one of the command that the words name.
+    // If a request is returned, then it is one of the command that the words name.
     ensures name { IfSome result (λ request. subcommand_name_of matches.now ≡ Some (command_word request)) }
-    // Each value of a request is what the words of its own option or argument stand for.
+    // If a request is returned, then each of its values is what the words of its option or argument, as the parser
+    // found them after the command's name, stand for.
     ensures found { IfSome result (λ request. (found : Found)
         × (option_map (λ p. p.1) (subcommand_rows_of matches.now) ≡ Some (found_rows found)) × Asks found request) }
-    // None is answered only where no command of the program is named, its words lack what it needs,
-    // or one stands for no version, sign or number that it takes.
+    // `None` is returned only if the words name no command of the program, or lack what this command needs, or have a
+    // word that stands for no version, sign or number that its option takes.
     ensures none { IfNone result (IsNotUnderstood matches.now) }
 {
     let (name, found) = matches.subcommand()?;
@@ -179,7 +180,7 @@ pub fn request_of<'m, 'a>(matches: &'m ArgMatches<'a>) -> Option<Request<'m, 'a>
     }
 }
 
-/// Whether the option has a value, and it is no number in decimal digits alone.
+/// Returns whether the option has a value that isn't a number in decimal digits alone.
 fn is_unread(found: &ArgMatches<'_>, option: &str) -> bool
     ensures { IsTrue result ↔ IsNoNumber (first_value (found_of found.now) option.now) }
 {
@@ -190,14 +191,14 @@ fn is_unread(found: &ArgMatches<'_>, option: &str) -> bool
 }
 
 /// Returns the option of `write` whose value isn't a number in decimal digits alone: `stride` if its value isn't one,
-/// else `stripe-rows` if its value isn't one. `request_of` answers nothing then.
+/// otherwise `stripe-rows` if its value isn't one. In these cases `request_of` returns `None`.
 pub fn unread_number(matches: &ArgMatches<'_>) -> Option<&'static str>
-    // If an option is returned, it takes a number, and its value isn't one: decimal digits alone,
-    // zeros in front allowed, whose number is below 2^32.
+    // If an option is returned, then it takes a number, and its value isn't one: decimal digits alone, leading zeros
+    // allowed, that spell a number below 2^32.
     ensures found { IfSome result (λ option. TakesNumber option.now × IsUnread matches.now option.now) }
-    // If the value of an option that takes a number isn't one, an option is returned.
+    // If the value of an option that takes a number isn't one, then an option is returned.
     ensures only { (option : List ℕ) → TakesNumber option → IsUnread matches.now option → IsSome result }
-    // If the value of --stride isn't a number, `stride` is returned.
+    // If the value of `--stride` isn't a number, then `stride` is returned.
     ensures first { IsUnread matches.now (codes "stride")
         → option_map (λ option. option.now) result ≡ Some (codes "stride") }
 {
@@ -211,7 +212,7 @@ pub fn unread_number(matches: &ArgMatches<'_>) -> Option<&'static str>
     }
 }
 
-/// Whether the flag was given, and has not only its default.
+/// Returns whether the flag was given, rather than having only its default value.
 fn is_given(found: &ArgMatches<'_>, flag: &str) -> bool
     ensures { IsTrue result ↔ (origin_of flag.now (found_rows (found_of found.now)) ≡ Some CommandLine) }
 {
@@ -222,9 +223,9 @@ fn is_given(found: &ArgMatches<'_>, flag: &str) -> bool
     }
 }
 
-/// Whether `--progress` was given after the command's name. The answer is no if the command has no such flag.
+/// Returns whether `--progress` was given after the command's name, and `false` if the command has no such flag.
 pub fn wants_progress(matches: &ArgMatches<'_>) -> bool
-    // The answer is true if, and only if, `--progress` was given after the command's name.
+    // `true` is returned if and only if `--progress` was given after the command's name.
     ensures given { IsTrue result ↔ HasProgress matches.now }
 {
     match matches.subcommand() {
