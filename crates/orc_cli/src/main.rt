@@ -23,8 +23,7 @@ fn main(rt: HostRuntime) -> ExitCode {
     }
 }
 
-/// Says on the standard error, on one line, why something isn't done. Of words that aren't understood that is said by
-/// now.
+/// Prints the error on one line of standard error. For a usage error the parser has done so already.
 fn tell<R: Eprint>(rt: &R, ending: Ending) {
     match ending {
         Ending::Refused(Refusal::NotUnderstood) => {}
@@ -37,7 +36,7 @@ fn tell<R: Eprint>(rt: &R, ending: Ending) {
     }
 }
 
-/// Carries out what the command line asks for.
+/// Carries out the request of the command line.
 fn run<R: Env + Files<File = File> + AllocGlobal + Print + Eprint + Clock>(
     rt: &R,
 ) -> Result<Outcome, Ending> {
@@ -57,8 +56,8 @@ fn run<R: Env + Files<File = File> + AllocGlobal + Print + Eprint + Clock>(
     }
 }
 
-/// Answers one request over the files of the system, on the standard output. Before what was printed is flushed, the
-/// meter's line is removed.
+/// Carries out one request over the files of the system, and prints to standard output. The meter's line is wiped
+/// before the output is flushed.
 fn answer<R: Files<File = File> + AllocGlobal + Print + Eprint + Clock>(
     rt: &R,
     request: Request<'_, '_>,
