@@ -1,4 +1,4 @@
--- What a request is answered with, a command at a time: files are found or made first, and then the command is done.
+-- How a request ends, command by command: files are found or made first, and then the command runs.
 use Rattle.std.specs.Prelude.{◌≡◌, ◌⊎◌, ℕ, List, [], ◌∷◌, map, Option, Some, None, IsSome, Result, Ok, Err}
 use Rattle.std.specs.List.{All, Any}
 use Rattle.std.specs.Borrow.{Bor}
@@ -19,25 +19,26 @@ use Rattle.orc_cli_commands.specs.declared.outcome.Outcome.{Outcome}
 use Rattle.orc_cli_commands.specs.Places.{Finds, Makes, CanFail, CanFailAt}
 use Rattle.orc_cli_commands.specs.Commands.{AnswersInts, AnswersRows, AnswersShow, AnswersCheck, AnswersWrite, AnswersMerge}
 
--- it ends as the command does
+-- the request ends as the command does
 abbrev pub EndsAs : (Result Outcome CliFault → Type 0) → Result Outcome Ending → Type 0
 EndsAs Holds (Ok outcome) = Holds (Ok outcome)
 EndsAs Holds (Err (Refused (Fault fault))) = Holds (Err fault)
 EndsAs Holds (Err (Refused NotUnderstood)) = ⊥
 EndsAs Holds (Err (NotMerged fault)) = ⊥
 
--- it ends as the merge does
+-- the request ends as the merge does
 abbrev pub EndsMerge : (Result Outcome MergeFault → Type 0) → Result Outcome Ending → Type 0
 EndsMerge Holds (Ok outcome) = Holds (Ok outcome)
 EndsMerge Holds (Err (Refused refusal)) = ⊥
 EndsMerge Holds (Err (NotMerged fault)) = Holds (Err fault)
 
--- it is refused with this fault of a layer
+-- the request fails with this fault of a layer
 abbrev pub IsRefusedAs : Result Outcome Ending → CliFault → Type 0
 IsRefusedAs result fault = result ≡ Err (Refused (Fault fault))
 
--- All inputs are found, and this holds; or one isn't, or there is no memory for all of them, and that does. Where each
--- is told they are found but for memory, and where the place lacks one they aren't.
+-- All inputs are found, and `Found` holds; or one isn't found, or there is no memory for all of them, and `NotFound`
+-- holds. If the bytes of each are known, then all are found unless memory runs out. If the place lacks one, then not
+-- all are found.
 abbrev pub FindsAll : (List ℕ → Type 0) → (List ℕ → Option (List ℕ)) → List (List ℕ) → Type 0
     → (CliFault → Type 0) → Type 0
 FindsAll lacks told paths Found NotFound =
@@ -45,31 +46,31 @@ FindsAll lacks told paths Found NotFound =
     ⊎ (((All (λ path. IsSome (told path)) paths → ⊥) × NotFound (File file.SourceFailed))
     ⊎ NotFound (File file.OutOfMemory))
 
--- the path is that of a file which the request makes
+-- the path is that of the file that the request makes
 abbrev pub IsMadeBy : Request → List ℕ → Type 0
 IsMadeBy (Write _ _ _ output) path = path ≡ output.now
 IsMadeBy (Merge output _) path = path ≡ output.now
 IsMadeBy _ path = ⊥
 
--- Of a place: what it has told of paths, and which it has lacked.
+-- A place before the request: the bytes that it knows at paths, and the paths at which it lacks a file.
 module _ (told : List ℕ → Option (List ℕ)) (lacks : List ℕ → Type 0) where
-  -- a file is found, and the command is done, or it isn't, and nothing is printed
+  -- a file is found, and the command runs; or it isn't found, and nothing is printed
   abbrev pub AnswersFile : Option (List ℕ) → Option (List ℕ) → Result Outcome Ending → List ℕ
       → (Result Outcome CliFault → Type 0) → Type 0
   AnswersFile old new result path Holds = Finds (lacks path) (told path) (EndsAs Holds result)
       (IsRefusedAs result (File file.SourceFailed) × Keeps old new)
 
-  -- And after the request: what it tells of files that were made, and that it is as it was. The counts are those of the
-  -- failures of its files.
+  -- The place after the request: the bytes that it knows of files that were made, and that it is unchanged. The
+  -- counts are those of failures of its files.
   module _ {L O : Type 0} (made : List ℕ → Option (List ℕ)) (unmade : Type 0) (input_failures : L → ℕ)
       (output_failures : O → ℕ) (result : Result Outcome Ending) where
-    -- a file is made, and this holds of what it told first, or it isn't closed; or none is made
+    -- a file is made, and `Holds` holds for its first bytes, or it isn't closed; or no file is made
     abbrev pub AnswersMaking : List ℕ → Type 0 → (Option (List ℕ) → Type 0) → Type 0
     AnswersMaking path NotClosed Holds = Makes (lacks path) (told path)
         (λ first. Holds first ⊎ ((lacks path → ⊥) × NotClosed))
         (unmade × (IsRefusedAs result write_failed ⊎ IsRefusedAs result (File file.OutOfMemory)))
 
-    -- a file is written of the lines of another one
+    -- a file is written from the lines of another one
     abbrev pub AnswersWriting : List ℕ → Options → List ℕ → List ℕ → Type 0
     AnswersWriting schema options from to = Finds (lacks from) (told from)
         (AnswersMaking to (IsRefusedAs result write_failed)
@@ -85,7 +86,8 @@ module _ (told : List ℕ → Option (List ℕ)) (lacks : List ℕ → Type 0) w
         first (made to)) result))
         (λ fault. unmade × IsRefusedAs result fault)
 
--- What makes no file leaves the place as it is, and what makes one prints nothing.
+-- How a request ends over a place. A request that makes no file leaves the place unchanged, and one that makes a file
+-- prints nothing.
 abbrev pub Answers : {I L O : Type 0} → (List ℕ → Option (List ℕ)) → (List ℕ → Type 0)
     → (List ℕ → Option (List ℕ)) → Type 0 → (I → ℕ) → (L → ℕ) → (O → ℕ)
     → Option (List ℕ) → Option (List ℕ) → Result Outcome Ending → Request → Type 0

@@ -1,5 +1,5 @@
--- What each command answers and leaves, over what the place tells of its files: the clauses of its call. An output that
--- is printed to has told `old` first and tells `new` then.
+-- What each command returns and writes, given what the place knows of its files. These are the clauses of the
+-- command's call. An output that is printed to has got `old` before and `new` afterwards.
 use Rattle.std.specs.Prelude.{◌≡◌, ◌≢◌, ◌<◌, ◌⊎◌, ℕ, ℤ, List, [], length, map, Option, Some, None, IfSome, Result, Ok, Err, IfOk, IfErr, OnOk, MatchResult, IsErrAnd, IsErrOf}
 use Rattle.std.specs.Borrow.{Bor}
 use Rattle.std.specs.Io.KnownBytes.{Appends, Keeps}
@@ -35,11 +35,11 @@ use Rattle.orc_merger.specs.declared.fault.MergeFault.TheVariants as merge
 use Rattle.orc_cli_commands.specs.declared.outcome.Outcome.{Outcome}
 use Rattle.orc_cli_commands.specs.declared.outcome.Outcome.TheVariants.{Done, Found}
 
--- where the command ends well nothing is found
+-- a success of the command is `Done`
 abbrev pub IsDone : {E : Type 0} → Result Outcome E → Type 0
 IsDone result = IfOk result (λ outcome. outcome ≡ Done)
 
--- something is found where the number isn't 0
+-- the outcome is `Found` if the number of findings isn't 0, and `Done` if it is
 abbrev pub IsOfNumber : ℕ → Outcome → Type 0
 IsOfNumber n outcome = (n ≡ 0 → outcome ≡ Done) × (0 < n → outcome ≡ Found)
 
@@ -58,7 +58,8 @@ pub record AnswersInts (rle : Rle) (sign : Sign) (text : List ℕ) (old new : Op
   pub nothing : IfErr result (λ e. e ≢ write_failed → Keeps old new)
   pub layer : IfErr result (λ e. IsWantOfMemory e → IsWantOfInts e)
 
--- `rows` of a file that was found, from the place on that a text names; `failed` is that sources of its kind can fail
+-- `rows` of a file that was found, from the stripe and group on that a text names; `failed` says that such sources
+-- can fail
 pub record AnswersRows (told : Option (List ℕ)) (from : Option (Bor (List ℕ))) (failed : Type 0)
     (old new : Option (List ℕ)) (result : Result Outcome CliFault) : Type 0 where
   pub done : IsDone result
@@ -72,7 +73,7 @@ pub record AnswersRows (told : Option (List ℕ)) (from : Option (Bor (List ℕ)
   pub source : IfErr result (λ e. e ≡ File file.SourceFailed → failed)
   pub layer : IfErr result (λ e. IsWantOfMemory e → IsWantOfRows e)
 
--- `show` of a file that was found
+-- `show` of a file that was found; `failed` says that such sources can fail
 pub record AnswersShow (told : Option (List ℕ)) (failed : Type 0) (old new : Option (List ℕ))
     (result : Result Outcome CliFault) : Type 0 where
   pub done : IsDone result
@@ -86,7 +87,7 @@ pub record AnswersShow (told : Option (List ℕ)) (failed : Type 0) (old new : O
   pub source : IfErr result (λ e. e ≡ File file.SourceFailed → failed)
   pub layer : IfErr result (λ e. IsWantOfMemory e → IsWantOfShow e)
 
--- `check` of a file that was found: that something is found is an outcome of its own
+-- `check` of a file that was found, whose findings decide the outcome; `failed` says that such sources can fail
 pub record AnswersCheck (told : Option (List ℕ)) (failed : Type 0) (old new : Option (List ℕ))
     (result : Result Outcome CliFault) : Type 0 where
   pub written : IfOk result (λ outcome. IfSome told (λ bytes. IsFoundOf bytes
@@ -100,7 +101,8 @@ pub record AnswersCheck (told : Option (List ℕ)) (failed : Type 0) (old new : 
   pub source : IfErr result (λ e. e ≡ File file.SourceFailed → failed)
   pub layer : IfErr result (λ e. IsWantOfMemory e → IsWantOfCheck e)
 
--- `write` of lines that were found, to a file that was made: it told `first`, and tells `made` in the end
+-- `write` of lines that were found, to a file that was made, whose bytes are `first` at the start and `made` at the
+-- end
 pub record AnswersWrite (schema : List ℕ) (options : Options) (lines : Option (List ℕ))
     (lines_failed output_failed : Type 0) (first made : Option (List ℕ))
     (result : Result Outcome CliFault) : Type 0 where
@@ -114,7 +116,8 @@ pub record AnswersWrite (schema : List ℕ) (options : Options) (lines : Option 
   pub output : IfErr result (λ e. e ≡ write_failed → output_failed)
   pub layer : IfErr result (λ e. IsWantOfMemory e → IsWantOfWrite first made e)
 
--- `merge` of inputs that were found, in their order, to a file that was made
+-- `merge` of inputs that were found, in order, to a file that was made, whose bytes are `first` at the start and
+-- `made` at the end
 pub record AnswersMerge (inputs : List (Option (List ℕ))) (input_failed : ℕ → Type 0) (output_failed : Type 0)
     (first made : Option (List ℕ)) (result : Result Outcome MergeFault) : Type 0 where
   pub done : IsDone result

@@ -1,20 +1,20 @@
--- What is shown of the bytes that are done: whole numbers of one unit, and a share.
+-- How progress is shown: whole numbers of one unit, and a share.
 use Rattle.std.specs.Prelude.{ℕ, ◌*◌, ◌/◌, ◌==◌, min, nat_lt, if◌then◌else◌, List, ◌∷◌, ◌++◌, codes, decimal}
 
--- how many bytes the unit has in which this number of bytes is shown
+-- the number of bytes in the unit in which this number of bytes is shown
 abbrev pub unit_size : ℕ → ℕ
 unit_size n = if nat_lt n 10000000 then 1000 else 1000000
 
--- the name of that unit
+-- the name of the unit in which this number of bytes is shown
 abbrev pub unit_name : ℕ → List ℕ
 unit_name n = if nat_lt n 10000000 then codes "kB" else codes "MB"
 
--- the share of the bytes that are done, in whole per cent: never more than 100
+-- the share of the bytes that are done, in whole per cent, at most 100
 abbrev pub share : ℕ → ℕ → ℕ
 share done all = if nat_lt done all then done * 100 / all else 100
 
--- The line: what is done of all, both in the unit of all, and the share. Where it isn't known how many bytes there are (0), what
--- is done alone.
+-- The line: the number of bytes that are done and that of all bytes, both in the unit of all, and the share. If the
+-- number of all bytes is unknown, which is 0, the line has only the number of bytes that are done.
 abbrev pub line_text : ℕ → ℕ → List ℕ
 line_text done all =
     if all == 0 then codes "orcm: " ++ (decimal (done / unit_size done) ++ 32 ∷ unit_name done)

@@ -1,4 +1,4 @@
-//! Why what the command line asks for isn't done.
+//! Why a command line wasn't carried out.
 ghost use Rattle.std.specs.Prelude.{◌≡◌, IfOk, IfErr, Err};
 ghost use Rattle.orc_cli_args.specs.declared.command_line.Refusal.TheVariants.{Fault, NotUnderstood};
 ghost use Rattle.orc_cli_commands.specs.declared.ending.Ending.TheVariants.{Refused, NotMerged};
@@ -10,7 +10,7 @@ use orc_cli_args::Refusal;
 use orc_cli_output::CliFault;
 use orc_merger::MergeFault;
 
-/// Why what the command line asks for isn't done: by a layer's fault, by its own words, or by the merger's fault.
+/// Why a command line wasn't carried out: a fault of a layer or of its words, or a fault of the merger.
 #[derive(Clone, Copy, Debug, PartialEq, Eq)]
 pub enum Ending {
     Refused(Refusal),
@@ -18,9 +18,9 @@ pub enum Ending {
 }
 
 impl Ending {
-    /// The program's exit status.
+    /// Returns the program's exit status.
     pub fn status(self) -> u8
-        // The status is 2 where the words aren't understood, and 1 after a refusal of a layer or of
+        // The status is 2 if the words of the command line aren't understood, and 1 after a fault of a layer or of
         // the merger.
         ensures words { self ≡ Refused NotUnderstood → result ≡ 2 }
         ensures fault { (fault : CliFault) → self ≡ Refused (Fault fault) → result ≡ 1 }
@@ -34,15 +34,15 @@ impl Ending {
     }
 }
 
-/// How a request ends that was answered like this, once what it printed was flushed. What was printed before a refusal
-/// goes out before the refusal is told. If that failed too, the failed output is the refusal.
+/// Returns how a request ended, once its output was flushed. What was printed before an error is flushed before the
+/// error is reported. If flushing fails, then its error is returned, even if the request failed too.
 pub fn with_output<W: Drop>(
     answered: Result<Outcome, Ending>,
     flushed: Result<W, CliFault>,
 ) -> Result<Outcome, Ending>
-    // If the flush succeeded, then the answer stands.
+    // If the flush succeeded, then `answered` is returned.
     ensures answered { IfOk flushed (λ _. result ≡ answered) }
-    // If the flush failed, then its error is the refusal, whatever the answer is.
+    // If the flush failed, then its error is returned, whatever `answered` is.
     ensures output { IfErr flushed (λ fault. result ≡ Err (Refused (Fault fault))) }
 {
     match flushed {

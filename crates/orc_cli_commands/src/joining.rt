@@ -16,7 +16,7 @@ use orc_merger::{MergeFault, merge};
 use orc_tail::FileFault;
 use std::alloc::Global;
 
-/// All inputs, in their order.
+/// Opens all inputs, in order.
 fn open_all<'a, P: Place<'a>>(
     alloc: Global,
     place: &P,
@@ -39,7 +39,7 @@ fn open_all<'a, P: Place<'a>>(
     Ok(sources)
 }
 
-/// Joins the sources.
+/// Joins the sources, in order.
 fn join<I: Source, O: Sink>(
     alloc: Global,
     sources: &mut [I],
@@ -52,7 +52,7 @@ fn join<I: Source, O: Sink>(
     Ok(Outcome::Done)
 }
 
-/// Joins files into a new one, which is made once all of them are found.
+/// Joins files into a new one. The new file is made once all inputs are found.
 pub(crate) fn join_files<'a, P: Place<'a>>(
     alloc: Global,
     place: &mut P,

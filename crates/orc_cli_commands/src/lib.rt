@@ -1,6 +1,5 @@
-//! The commands of `orcm` as a library's calls, since a program's crate can't be called: integer streams, a file's
-//! outline, its rows, what its statistics and indexes say that isn't so, lines to a file, and files to one. And the
-//! answer to a request, over any place where files lie.
+//! The commands of `orcm` as calls of a library, because the crate of a program can't be called: `ints`, `rows`,
+//! `show`, `check`, `write` and `merge`. `answer_to` carries out a request over any place that has files.
 #![tactic(auto)]
 
 mod answering;

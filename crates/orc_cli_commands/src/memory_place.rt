@@ -1,4 +1,4 @@
-//! Files in memory as a place.
+//! A place that has files in memory.
 ghost use Rattle.std.specs.Prelude.{◌≡◌, ℕ, List, Some, option_map};
 ghost use Rattle.std.specs.Borrow.{Bor};
 ghost use Rattle.orc_cli_commands.specs.Places.{held_at};
@@ -10,8 +10,8 @@ use orc_io::{SliceSource, VecSink};
 use orc_tail::FileFault;
 use std::alloc::Global;
 
-/// Files in memory: those that are there first, each behind its path, and room for one that is made. It tells all of
-/// their bytes. A second file can't be made.
+/// Files in memory: those that are there first, each with its path, and room for one that is made. The bytes of all
+/// of them are known. A second file can't be made.
 #[derive(Drop)]
 pub struct MemoryPlace<'a> {
     files: &'a [(&'a str, &'a [u8])],
@@ -19,12 +19,13 @@ pub struct MemoryPlace<'a> {
 }
 
 impl<'a> MemoryPlace<'a> {
-    /// These files, each behind its path. Of two with one path the first is the one.
+    /// Makes a place with these files, each with its path. If two have the same path, then the second one can't be
+    /// read.
     pub fn new(files: &'a [(&'a str, &'a [u8])]) -> MemoryPlace<'a> {
         MemoryPlace { files, made: None }
     }
 
-    /// The bytes of the file that was made at that path.
+    /// Returns the bytes of the file that was made at this path.
     pub fn made_at(&self, path: &str) -> Option<&[u8]> {
         match &self.made {
             Some((known, bytes)) if *known == path => Some(bytes.as_slice()),
@@ -32,7 +33,7 @@ impl<'a> MemoryPlace<'a> {
         }
     }
 
-    /// The bytes of the file that was there first at that path.
+    /// Returns the bytes of the file that was there first at this path.
     fn held_at(&self, path: &str) -> Option<&'a [u8]>
         ensures { option_map (λ (bytes : Bor (List ℕ)). bytes.now) result ≡ held_at self.now.files.now path.now }
     {

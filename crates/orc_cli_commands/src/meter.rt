@@ -1,4 +1,4 @@
-//! A meter of the bytes that are done, on the standard error.
+//! A meter that shows progress on standard error.
 ghost use Rattle.std.specs.Prelude.{◌-◌, ◌≤◌, ◌↔◌, IsTrue};
 ghost use Rattle.std.specs.Time.{instant_nanos};
 
@@ -12,38 +12,39 @@ use std::time::Instant;
 /// As many blanks as the longest line has bytes.
 const BLANKS: &str = "                                                ";
 
-/// Shows on the standard error how far the work is: one line at most once a second, the first after a second, each over
-/// the one before it. A line that can't be written is left out, and so is one for which the clock can't be read.
+/// Shows on standard error how many bytes are done. It shows one line at most once a second, the first after a
+/// second, each over the line before. A line that can't be written, or for which the clock can't be read, is left
+/// out.
 #[derive(Drop)]
 pub struct Meter<'r, R: Eprint + Clock> {
     rt: &'r R,
-    /// When the last line was shown, or the work began. A meter that shows nothing has none.
+    /// When the last line was shown, or when the work began. `None` if the meter shows nothing.
     last: Cell<Option<Instant>>,
     ahead: Cell<u64>,
     done: Cell<u64>,
     is_shown: Cell<bool>,
 }
 
-/// Whether a second or more has passed between two moments.
+/// Returns whether at least one second has passed from `last` to `now`.
 pub fn is_due(last: Instant, now: Instant) -> bool
-    // A line is due if, and only if, a second or more has passed since the last one.
+    // `true` is returned if and only if at least one second has passed from `last` to `now`.
     ensures { IsTrue result ↔ (1_000_000_000 ≤ instant_nanos now - instant_nanos last) }
 {
     now.duration_since(last).as_nanos() >= 1_000_000_000
 }
 
 impl<'r, R: Eprint + Clock> Meter<'r, R> {
-    /// A meter of work that begins now.
+    /// Makes a meter of work that begins now.
     pub fn new(rt: &'r R) -> Meter<'r, R> {
         Meter::with_start(rt, Instant::now(rt).ok())
     }
 
-    /// A meter that shows nothing, and doesn't ask for the time.
+    /// Makes a meter that shows nothing and doesn't read the clock.
     pub fn quiet(rt: &'r R) -> Meter<'r, R> {
         Meter::with_start(rt, None)
     }
 
-    /// A meter of work that began then.
+    /// Makes a meter of work that began at `start`, or one that shows nothing if there is no `start`.
     fn with_start(rt: &'r R, start: Option<Instant>) -> Meter<'r, R> {
         Meter {
             rt,
@@ -54,7 +55,7 @@ impl<'r, R: Eprint + Clock> Meter<'r, R> {
         }
     }
 
-    /// Whether a line is to be shown now, with which the next second begins.
+    /// Returns whether a line is to be shown now. If so, the next second begins now.
     fn takes_turn(&self) -> bool {
         let Some(last) = self.last.get() else {
             return false;
@@ -68,7 +69,7 @@ impl<'r, R: Eprint + Clock> Meter<'r, R> {
         }
     }
 
-    /// Removes the line that is shown, and shows no other.
+    /// Removes the line that is shown. The meter shows no other line afterwards.
     pub fn wipe(&self) {
         self.last.set(None);
         if self.is_shown.replace(false) {
@@ -92,14 +93,14 @@ impl<R: Eprint + Clock> Progress for Meter<'_, R> {
     }
 }
 
-/// Whether there is a standard error. Where there is none, the next file that is opened takes its number, and what is
-/// meant for the standard error would go into that file.
+/// Returns whether there is a standard error. If there is none, then the next file that is opened gets its number,
+/// and what is meant for standard error would be written to that file.
 fn has_standard_error<R: Files>(rt: &R) -> bool {
     fs::metadata(rt, "/proc/self/fd/2").is_ok()
 }
 
-/// The meter of work that begins now, which shows how far it is if that is asked for. It has to be made before a file is
-/// opened.
+/// Makes a meter of work that begins now. It shows lines if `is_asked_for` and there is a standard error. It must be
+/// made before any file is opened.
 pub fn meter_of<R: Eprint + Clock + Files>(rt: &R, is_asked_for: bool) -> Meter<'_, R> {
     if is_asked_for && has_standard_error(rt) {
         Meter::new(rt)

@@ -1,4 +1,4 @@
-//! A new file as an output.
+//! A new file of the system as a sink.
 ghost use Rattle.std.specs.Prelude.{◌≡◌, ◌≤◌, ◌+◌, length, None, IfOk, IfErr};
 ghost use Rattle.std.specs.Io.KnownBytes.{Keeps, WriteAppends};
 ghost use Rattle.std.specs.Io.Buffered.{writer_contents};
@@ -12,8 +12,8 @@ use orc_io::{Failures, Sink, SinkFault};
 use orc_tail::FileFault;
 use std::io::{BufWriter, Write};
 
-/// A new file behind a buffer. It tells nothing of its bytes as a sink, and fails only where the file fails or takes
-/// nothing.
+/// A new file with a buffer before it. As a sink its bytes are unknown. It fails only if the file fails or takes no
+/// bytes.
 #[derive(Drop)]
 pub struct NewFile<D: Durable + Drop> {
     buffered: BufWriter<D>,
@@ -21,7 +21,7 @@ pub struct NewFile<D: Durable + Drop> {
 }
 
 impl<D: Durable + Drop> NewFile<D> {
-    /// A new file whose bytes go through this buffer.
+    /// Makes a new file whose bytes go through this buffer.
     pub fn new(buffered: BufWriter<D>) -> NewFile<D>
         // The returned file has the buffer `buffered` as it was given, and a count of failures of 0.
         ensures buffered { result.buffered ≡ buffered }
@@ -33,10 +33,14 @@ impl<D: Durable + Drop> NewFile<D> {
         }
     }
 
-    /// Writes what the buffer still has, and then asks the file to keep all of it, once. The file is handed back, or a
-    /// count of failures beside the refusal, which is `WriteFailed`. Neither the write nor the request is tried again.
+    /// Writes what the buffer still has, and then asks the file once to keep all its bytes. Returns the file. Neither
+    /// the write nor the request is repeated.
+    ///
+    /// # Errors
+    ///
+    /// `WriteFailed` if the write or the request failed. The count of failures is returned beside the error.
     pub fn finish(mut self) -> Result<D, (CliFault, Failures)>
-        // If the call succeeds, then the file keeps all that it has got, also when the power goes.
+        // If the call succeeds, then the file keeps all that it has got, even if the power fails.
         ensures durable { IfOk result D.durable }
         // If the call succeeds, then the file has got all that the buffer was given, if its bytes are known.
         ensures all { IfOk result (λ file. Keeps (writer_contents D.contents self.buffered) (D.contents file)) }
@@ -70,7 +74,7 @@ impl<D: Durable + Drop> Sink for NewFile<D> {
     fn write(&mut self, bytes: &[u8]) -> Result<usize, SinkFault>
         // A write takes at most as many bytes as `bytes` has.
         ensures bound { IfOk result (λ n. n ≤ length bytes.now) }
-        // If the bytes of the file and its buffer are known, then they grow by exactly the front of `bytes` that the
+        // If the bytes of the file and its buffer are known, then they grow by exactly the prefix of `bytes` that the
         // write takes, and are unchanged if the write fails.
         ensures file { WriteAppends (writer_contents D.contents self.old.buffered)
             (writer_contents D.contents self.new.buffered) result bytes.now }

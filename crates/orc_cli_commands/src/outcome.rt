@@ -1,18 +1,18 @@
-//! How a request ends that is carried out.
+//! How a request ends that was carried out.
 ghost use Rattle.std.specs.Prelude.{◌≡◌, ◌<◌};
 ghost use Rattle.orc_cli_commands.specs.declared.outcome.Outcome.TheVariants.{Done, Found};
 
 /// How a request ended that was carried out.
 #[derive(Clone, Copy, Debug, PartialEq, Eq)]
 pub enum Outcome {
-    /// All of it is done, and nothing was found.
+    /// The request is done, and it was no check, or the checked file has no findings.
     Done,
-    /// All of it is done, and a file was checked of which something was found.
+    /// The request is done: a file was checked, and it has findings.
     Found,
 }
 
 impl Outcome {
-    /// That of a check which found so much.
+    /// Returns the outcome of a check that had this number of findings.
     pub(crate) fn of_findings(number: usize) -> Outcome
         ensures none { number ≡ 0 → result ≡ Done }
         ensures some { 0 < number → result ≡ Found }
@@ -24,10 +24,9 @@ impl Outcome {
         }
     }
 
-    /// The program's exit status.
+    /// Returns the program's exit status.
     pub fn status(self) -> u8
-        // The status is 0 where all is done and nothing was found, and 3 where a checked file has
-        // findings.
+        // The status is 0 for `Done`, and 3 for `Found`.
         ensures done { self ≡ Done → result ≡ 0 }
         ensures found { self ≡ Found → result ≡ 3 }
     {

@@ -1,4 +1,4 @@
-//! The commands that print: what is asked of a stream of integers, or of one file.
+//! The commands that print: numbers of an integer stream, or rows, tail or findings of one file.
 ghost use Rattle.std.specs.Prelude.{◌≡◌, List, ℕ};
 ghost use Rattle.orc_cli_commands.specs.Places.{CanFail};
 ghost use Rattle.orc_cli_commands.specs.Commands.{AnswersInts, AnswersRows, AnswersShow, AnswersCheck};
@@ -49,7 +49,7 @@ fn print_rows<S: Source + Drop, W: Write>(
     }
 }
 
-/// Prints what a source says of itself.
+/// Prints the tail of a source.
 fn print_outline<S: Source + Drop, W: Write>(
     alloc: Global,
     source: S,
@@ -63,7 +63,7 @@ fn print_outline<S: Source + Drop, W: Write>(
     }
 }
 
-/// Prints what is found of a source.
+/// Prints the findings of a source.
 fn print_findings<S: Source + Drop, W: Write>(
     alloc: Global,
     source: S,
@@ -77,7 +77,7 @@ fn print_findings<S: Source + Drop, W: Write>(
     }
 }
 
-/// Prints the rows of the file of that path, from the place on that a text names, if there is one.
+/// Prints the rows of the file at a path, from the stripe and group on that a text names, if there is one.
 pub(crate) fn print_rows_at<'a, P: Place<'a>, W: Write>(
     alloc: Global,
     place: &P,
@@ -93,7 +93,7 @@ pub(crate) fn print_rows_at<'a, P: Place<'a>, W: Write>(
     Ok(print_rows(alloc, source, from, out)?)
 }
 
-/// Prints what the file of that path says of itself.
+/// Prints the tail of the file at a path.
 pub(crate) fn print_outline_at<'a, P: Place<'a>, W: Write>(
     alloc: Global,
     place: &P,
@@ -108,7 +108,7 @@ pub(crate) fn print_outline_at<'a, P: Place<'a>, W: Write>(
     Ok(print_outline(alloc, source, out)?)
 }
 
-/// Prints what is found of the file of that path.
+/// Prints the findings of the file at a path.
 pub(crate) fn print_findings_at<'a, P: Place<'a>, W: Write>(
     alloc: Global,
     place: &P,

@@ -1,11 +1,11 @@
-//! Who is told how far the work is.
+//! The trait of what is told about progress.
 
-/// Is told how many bytes are to be read, and how many were read. What it makes of that changes no answer: it is told
-/// through a shared reference, and answers nothing.
+/// Is told how many bytes are to be read, and how many were read. This changes no result: it is told through a shared
+/// reference and returns nothing.
 pub trait Progress {
-    /// That many bytes more are to be read.
+    /// `bytes` more bytes are to be read.
     fn ahead(&self, bytes: u64);
 
-    /// That many bytes more were read.
+    /// `bytes` more bytes were read.
     fn done(&self, bytes: u64);
 }

@@ -1,10 +1,10 @@
-//! The line that shows how far the work is.
+//! The line that shows progress.
 ghost use Rattle.std.specs.Prelude.{◌≡◌, ◌/◌, ◌≤◌};
 ghost use Rattle.orc_cli_commands.specs.Progress as spec;
 
 use std::fmt;
 
-/// How many bytes are done, of how many. Where it isn't known how many there are, that number is 0.
+/// The number of bytes that are done, and the number of all bytes, which is 0 if it is unknown.
 #[derive(Clone, Copy)]
 pub struct ProgressLine {
     done: u64,
@@ -12,7 +12,7 @@ pub struct ProgressLine {
 }
 
 impl ProgressLine {
-    /// The line of these numbers.
+    /// Makes the line of these numbers.
     pub fn new(done: u64, all: u64) -> ProgressLine
         // The line has the numbers that were given.
         ensures done { result.done ≡ done }
@@ -21,10 +21,10 @@ impl ProgressLine {
         ProgressLine { done, all }
     }
 
-    /// The share of what is done, in whole per cent.
+    /// Returns the share of the bytes that are done, in whole per cent.
     pub fn share(&self) -> u128
-        // The share is the number of bytes that are done, in per cent of all, rounded down. If no fewer bytes are done
-        // than there are, it is 100.
+        // If `done` is below `all`, then the share is `done` in per cent of `all`, rounded down, and otherwise it is
+        // 100.
         ensures value { result ≡ spec.share self.now.done self.now.all }
         // The share is at most 100.
         ensures most { result ≤ 100 }
@@ -37,7 +37,7 @@ impl ProgressLine {
     }
 }
 
-/// So many bytes, in whole units of those in which a number of bytes is shown.
+/// Returns a number of bytes in whole units: those in which the number `shown` is shown.
 fn in_units(bytes: u64, shown: u64) -> u64
     ensures { result ≡ bytes / spec.unit_size shown }
 {
@@ -48,14 +48,15 @@ fn in_units(bytes: u64, shown: u64) -> u64
     }
 }
 
-/// The name of the unit in which a number of bytes is shown.
+/// Returns the name of the unit in which a number of bytes is shown.
 fn unit_name(shown: u64) -> &'static str
     ensures { result.now ≡ spec.unit_name shown }
 {
     if shown < 10_000_000 { "kB" } else { "MB" }
 }
 
-/// The bytes that are done of all, and their share; the bytes that are done alone where it isn't known how many there are.
+/// Prints how many bytes of all are done, and their share, or only how many are done if the number of all bytes is
+/// unknown.
 impl fmt::Display for ProgressLine {
     ghost use Rattle.std.specs.Prelude.{Some};
     ghost use Rattle.orc_cli_commands.specs.Progress.{line_text};

@@ -1,4 +1,4 @@
-//! The files of the system as a place.
+//! A place that has the files of the system.
 ghost use Rattle.std.specs.Prelude.{◌≡◌, ◌⊎◌, None, IsSomeAnd, IfOk, IfErr, true};
 ghost use Rattle.orc_tail.specs.declared.fault.FileFault.TheVariants as file;
 ghost use Rattle.orc_cli_output.specs.declared.fault.CliFault.TheVariants.{File as FileFaulted};
@@ -19,8 +19,8 @@ use std::fs::File;
 use std::io::{self, BufRead, BufReader};
 use std::rt::Files;
 
-/// The files of the system, whose reads a meter is told of, and of those that were made the one that was closed last,
-/// behind its path. It tells nothing of their bytes.
+/// The files of the system. A meter is told of their reads. Of the files that were made, the place has the one that
+/// was closed last, with its path. The files' bytes are unknown.
 #[derive(Drop)]
 pub struct SystemPlace<'a, R: Files<File = File>, M: Progress> {
     files: &'a R,
@@ -29,7 +29,7 @@ pub struct SystemPlace<'a, R: Files<File = File>, M: Progress> {
 }
 
 impl<'a, R: Files<File = File>, M: Progress> SystemPlace<'a, R, M> {
-    /// The files that this runtime opens, and the meter that is told of them.
+    /// Makes a place with the files that this runtime opens, and with the meter that is told of their reads.
     pub fn new(files: &'a R, meter: &'a M) -> SystemPlace<'a, R, M> {
         SystemPlace {
             files,
@@ -39,7 +39,7 @@ impl<'a, R: Files<File = File>, M: Progress> SystemPlace<'a, R, M> {
     }
 }
 
-/// What an error of opening or reading a file is told as.
+/// Returns the fault that stands for an error of opening or reading a file.
 fn fault_of(error: &io::Error) -> FileFault
     ensures { (result ≡ file.SourceFailed) ⊎ (result ≡ file.OutOfMemory) }
 {
@@ -49,7 +49,7 @@ fn fault_of(error: &io::Error) -> FileFault
     }
 }
 
-/// Tells the meter how long a regular file is. Of a pipe that isn't known.
+/// Tells the meter the length of a regular file. The length of a pipe is unknown.
 fn tell_length<M: Progress>(file: &File, meter: &M) {
     match file.metadata() {
         Ok(metadata) if metadata.is_file() => meter.ahead(metadata.len()),
@@ -57,8 +57,8 @@ fn tell_length<M: Progress>(file: &File, meter: &M) {
     }
 }
 
-/// A file's bytes, from its front. That some of them are read, or that there are none, is seen before anything is made
-/// of them.
+/// Opens a file for reading from its start. The first bytes are read here, so that a file that can't be read is found
+/// before anything is made.
 fn reader_of<'m, R: Files<File = File>, M: Progress>(
     files: &R,
     meter: &'m M,

@@ -1,4 +1,4 @@
-//! A device whose reads are counted.
+//! A device whose reads are reported to a meter.
 ghost use Rattle.std.specs.Prelude.{◌≡◌};
 ghost use Rattle.std.specs.Io.{ReadsAtMost};
 ghost use Rattle.std.specs.Io.KnownBytes.{ReadConsumes};
@@ -7,8 +7,8 @@ use crate::progress::Progress;
 use orc_io::{Source, SourceFault};
 use std::io::{self, Read};
 
-/// A device that tells a meter how many bytes each of its reads gave. Bytes and answers are those of the device, as they
-/// are, and a read that failed isn't counted.
+/// A device that reports to a meter how many bytes each of its reads gave. Its bytes and results are those of the
+/// device. A read that failed isn't reported.
 #[derive(Drop)]
 pub struct Watched<'m, D, M: Progress> {
     device: D,
@@ -16,9 +16,9 @@ pub struct Watched<'m, D, M: Progress> {
 }
 
 impl<'m, D, M: Progress> Watched<'m, D, M> {
-    /// The device as it is, and the meter that its reads are told to.
+    /// Takes a device, and the meter to which its reads are reported.
     pub fn new(device: D, meter: &'m M) -> Watched<'m, D, M>
-        // The watched device is the one that was given, as it is.
+        // The watched device is `device` as it was given.
         ensures device { result.device ≡ device }
     {
         Watched { device, meter }
@@ -53,7 +53,7 @@ impl<D: Source, M: Progress> Source for Watched<'_, D, M> {
     ghost told_bytes = { λ watched. D.told_bytes watched.device };
 }
 
-/// Tells the meter how many bytes a read gave, and hands the read's answer on.
+/// Reports to the meter how many bytes a read gave, and returns the read's result.
 fn noted<M: Progress>(meter: &M, answer: io::Result<usize>) -> io::Result<usize>
     ensures { result ≡ answer }
 {

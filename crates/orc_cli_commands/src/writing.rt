@@ -1,4 +1,4 @@
-//! The command that writes a file of lines.
+//! The command that writes a file from lines.
 ghost use Rattle.std.specs.Prelude.{◌≡◌, ◌≢◌, List, ℕ, OnOk};
 ghost use Rattle.orc_cli_commands.specs.Places.{CanFail};
 ghost use Rattle.orc_cli_commands.specs.Commands.{AnswersWrite};
@@ -13,7 +13,7 @@ use orc_io::Sink;
 use orc_row_batch::Options;
 use std::alloc::Global;
 
-/// Writes a file of the rows that lines spell, and hands the output back.
+/// Writes a file from lines of JSON, and returns the output beside the result.
 fn write_rows<L: LineReader, O: Sink>(
     alloc: Global,
     schema: &str,
@@ -30,7 +30,7 @@ fn write_rows<L: LineReader, O: Sink>(
     }
 }
 
-/// Writes a new file of the rows that the lines of another one spell, which is read as it is written.
+/// Writes a new file from the lines of another one, which is read as the new file is written.
 pub(crate) fn write_file<'a, P: Place<'a>>(
     alloc: Global,
     place: &mut P,
