@@ -41,9 +41,9 @@ pub trait Place<'a> {
         ensures told { IfOk result (λ input. Self.Input.told input ≡ told self.now path.now) }
         // An error is `SourceFailed`.
         ensures fault { IfErr result (λ fault. fault ≡ File file.SourceFailed) }
-        // If the place knows the file at `path`, then the file is opened. If the place lacks a file at `path`, then
-        // the call fails.
+        // If the place knows the file at `path`, then the file is opened.
         ensures only { IsSome (told self.now path.now) → IsOk result }
+        // If the place lacks a file at `path`, then the call fails.
         ensures lacking { lacks self.now path.now → IsErr result };
 
     /// Finds the file at a path, for reading lines. Fails with `SourceFailed` if it isn't found or can't be read, or
@@ -54,9 +54,9 @@ pub trait Place<'a> {
         ensures told { IfOk result (λ lines. Self.Lines.remaining lines ≡ told self.now path.now) }
         // An error is `SourceFailed` or `OutOfMemory`.
         ensures fault { IfErr result (λ fault. (fault ≡ File file.SourceFailed) ⊎ (fault ≡ File file.OutOfMemory)) }
-        // If the place knows the file at `path`, then lines are returned. If the place lacks a file at `path`, then
-        // the call fails.
+        // If the place knows the file at `path`, then lines are returned.
         ensures only { IsSome (told self.now path.now) → IsOk result }
+        // If the place lacks a file at `path`, then the call fails.
         ensures lacking { lacks self.now path.now → IsErr result };
 
     /// Makes an empty file at a path, where no file may exist. Fails with `WriteFailed` if it can't be made, or with

@@ -23,8 +23,7 @@ impl ProgressLine {
 
     /// Returns the share of the bytes that are done, in whole per cent.
     pub fn share(&self) -> u128
-        // If `done` is below `all`, then the share is `done` in per cent of `all`, rounded down, and otherwise it is
-        // 100.
+        // The share is `done` in per cent of `all`, rounded down, if `done` is below `all`, and 100 otherwise.
         ensures value { result ≡ spec.share self.now.done self.now.all }
         // The share is at most 100.
         ensures most { result ≤ 100 }

@@ -96,10 +96,10 @@ pub fn ints_to<W: Write>(
     // the bytes that `text` spells; `WriteFailed`, only if the digits in `text` spell a stream of numbers; or
     // `OutOfMemory`.
     ensures refused { IfErr result (RefusesInts rle sign text.now) }
-    // If `text` is not hexadecimal, then the error is `BadHex` or `OutOfMemory`.
+    // If `text` is not hexadecimal, then the call fails with `BadHex` or `OutOfMemory`.
     ensures no_hex { IsNoHex text.now → IsErrAnd result (λ e. (e ≡ Json json.BadHex) ⊎ IsWantOfMemory e) }
-    // If `text` is hexadecimal and its bytes have an invalid run, then the error is `Run` with the fault of the
-    // first invalid run, or `OutOfMemory`.
+    // If `text` is hexadecimal and its bytes have an invalid run, then the call fails with `Run` and the fault of the
+    // first invalid run, or with `OutOfMemory`.
     ensures stops { (fault : RunFault) → StopsInts rle sign text.now fault
         → IsErrAnd result (λ e. (e ≡ Run fault) ⊎ IsWantOfMemory e) }
     // If the error is `WriteFailed`, the output's bytes are known, and the digits in `text` spell a stream of

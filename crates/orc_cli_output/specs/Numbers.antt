@@ -2,7 +2,7 @@
 use Rattle.std.specs.Prelude.{◌≡◌, ℕ, ◌<◌, ◌^◌, List}
 use Rattle.std.specs.Str.Parse.{IsNumeral, digits_value}
 
--- decimal digits alone, and the number below 2^32 that they spell
+-- one or more decimal digits, and the number below 2^32 that they spell
 pub record IsDecimalNumber (digits : List ℕ) (n : ℕ) : Type 0 where
   pub numeral : IsNumeral 10 digits
   pub value : n ≡ digits_value 10 digits

@@ -23,9 +23,9 @@ use std::alloc::Global;
 use std::io::Write;
 
 /// Checks a file and, if it has no findings, prints its rows from a group of a stripe on. `from`, such as `2:0`,
-/// names the stripe and the group. Returns whether the rows were printed. That these are the file's rows from the
-/// group's first row on follows from clause `lines` of `reading_from_the_middle`, and that no fault of the file comes
-/// from its clause `only`.
+/// names the stripe and the group. Returns whether the rows were printed. They are the file's rows from the group's
+/// first row on, by clause `lines` of `reading_from_the_middle`. If the group exists and the rows have JSON, then no
+/// fault of the file is the error, by its clause `only`.
 ///
 /// # Errors
 ///

@@ -170,8 +170,7 @@ fn both_gave(
 /// result of the last two. Returns the file that the one merge gave, and whether each grouping gave the same bytes.
 ///
 /// That the two groupings gave the same bytes follows from clause `alike` of `merge_theorem`, and that every grouping
-/// does from its clause `given`. What is promised of the file are its clauses `opens`, `rows`, `statistics` and
-/// `sums`.
+/// gives them from its clause `given`. Its clauses `opens`, `rows`, `statistics` and `sums` say what the file is.
 ///
 /// # Errors
 ///

@@ -56,7 +56,7 @@ pub fn written_files_read_back()
         (rows : List Cell)
         → (finish_wrote : WroteWholeFile options schema tail first told rows)
         → Honest tail rows × HasWholeStats tail rows }
-    // If `finish` succeeded, and a list is that of the findings of the bytes that it wrote, with the returned tail
+    // If `finish` succeeded, and a list is the list of findings of the bytes that it wrote, with the returned tail
     // and the rows that were pushed, then this list is empty.
     ensures checked { (options : Options) (schema : Shape) (tail : Tail) (first told : Option (List ℕ)) (rows : List Cell)
         (found : List Finding)
