@@ -148,7 +148,7 @@ NotWrittenLines schema rle stride stripe_rows lines fault =
 
 -- ---- orcm_merge
 
--- the merged file of these, of fewer than 2^64 bytes
+-- the merged file of these files, of fewer than 2^64 bytes
 abbrev pub IsMergeOf : List (List ℕ) → List ℕ → Type 0
 IsMergeOf files bytes = (tail : Tail) × WroteMerge files tail (Some []) (Some bytes)
 

@@ -57,8 +57,8 @@ fn tell_length<M: Progress>(file: &File, meter: &M) {
     }
 }
 
-/// Opens a file for reading from its start. The first bytes are read here, so that a file that can't be read is found
-/// before anything is made.
+/// Opens a file for reading from its start. Its first bytes are read here, so that a file that can't be read is
+/// noticed before a file is made.
 fn reader_of<'m, R: Files<File = File>, M: Progress>(
     files: &R,
     meter: &'m M,

@@ -1,4 +1,4 @@
-//! Files in memory, joined.
+//! Joins files in memory.
 ghost use Rattle.std.specs.Prelude.{◌≡◌, ◌↔◌, ◌∷◌, [], Some, IsTrue, IfOk, IfErr};
 ghost use Rattle.orc_merger.specs.Outcomes.{WroteMerge, IsAnswer};
 

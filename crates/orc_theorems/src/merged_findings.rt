@@ -1,9 +1,10 @@
 //! The findings of merged files. `findings_of_merges` does nothing: its contract is the statement.
 //!
-//! `Findings bytes tail rows found` says that `check` returns the list `found` for a file with this tail and these
-//! rows: an entry for each statistic, of a stripe, of a row group or of the whole file, that isn't that of the rows,
-//! and for each row index entry that is missing or doesn't lead to its group. `AreWithoutFinding files parts` says
-//! that each file has its rows in `parts`, and no findings.
+//! `Findings bytes tail rows found` says that `found` is the list that `check` returns for a file with this tail and
+//! these rows. It has an entry for each statistic, of a stripe, of a row group or of the whole file, that isn't that
+//! of the rows; for each row index that is missing, can't be read or has the wrong number of entries; and for each
+//! entry whose positions don't lead to its group. `AreWithoutFinding files parts` says that each file has its rows in
+//! `parts`, and no findings.
 ghost use Rattle.std.specs.Prelude.{◌<◌, ◌^◌, ℕ, List, [], length};
 ghost use Rattle.orc_values.specs.Cells.{Cell};
 ghost use Rattle.orc_file_reader.specs.FileRows.{FileIs, rows_together};
