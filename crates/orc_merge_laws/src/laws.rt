@@ -87,9 +87,9 @@ pub fn grouping()
 
 /// Joined statistics don't depend on the order of the statistics that are joined. So inputs that can be merged can be
 /// merged in every order, and the file statistics are the same. If the stripe statistics are those of their rows,
-/// then the merged file's statistics are those of all rows. A sum is stored if and only if there is a value, and the
-/// sum of each stripe and the sum of all rows fit 64 bits, even if element counts are missing. Missing element counts
-/// change no sum, and nothing at all in columns other than lists and maps.
+/// then the merged file's statistics are those of all rows, with two exceptions. A sum is stored if and only if there
+/// is a value, and the sum of each stripe with values and the sum of all rows fit 64 bits, even if element counts are
+/// missing. Missing element counts change no sum, and nothing at all in columns other than lists and maps.
 pub fn orders()
     // If a list of statistics is a permutation of another list, then joining either list as statistics of one kind
     // gives the same statistic.

@@ -26,15 +26,16 @@ use orc_file_reader::row_laws;
 use orc_merge_laws::{grouping, orders, outcomes};
 use orc_tail::tail_laws;
 
-/// Files that are merged in groups, however they are grouped, become the same bytes as by one merge of all. These
-/// have all the files' rows, in order. The file statistics are the same for every order of the files, and are those
-/// of all rows if the statistics of the files' stripes are those of their rows. One merge of all is refused for user
-/// metadata or a limit if and only if some step of the grouping is.
+/// If each merge succeeds, then files that are merged in groups, however they are grouped, become the same bytes as
+/// by one merge of all. These have all the files' rows, in order. The file statistics are the same for every order of
+/// the files, and are those of all rows, with two exceptions, if the statistics of the files' stripes are those of
+/// their rows. If the files open and agree, then one merge of all is refused for user metadata or a limit if and only
+/// if some step of the grouping is.
 ///
-/// Each conclusion has only the premises that it needs. That the files open and agree is no premise, because it
-/// follows if their merges succeed. That statistics are right is a premise only of clauses about statistics, and that
-/// files have rows only of clauses about rows. What is said of a merged file holds for the file that any grouping
-/// wrote, by the clause `merged`.
+/// Each conclusion has only the premises that it needs. That the files open and agree is a premise only of the clause
+/// `refused`, because it follows if their merges succeed. That statistics are right is a premise only of clauses
+/// about statistics, and that files have rows only of clauses about rows or statistics. What is said of a merged file
+/// holds for the file that any grouping wrote, by the clause `merged`.
 pub fn merge_theorem()
     // If each merge of a grouping wrote its file, and one merge of all files of the grouping succeeded, then
     // this one merge wrote the same bytes as the grouping.
