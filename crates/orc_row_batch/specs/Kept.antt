@@ -1,5 +1,6 @@
--- What is kept of a column's cells: each as its own column says it, and the bytes of the texts and of the byte strings, one
--- after the other (ORC specification, "Column Encodings": string and binary columns have the bytes apart from the lengths).
+-- What is kept of a column's cells: each cell without its children; and apart from the cells the bytes of all texts,
+-- and of all byte strings, joined in order (ORC specification, "Column Encodings": string and binary columns store the
+-- bytes apart from the lengths).
 use Rattle.std.specs.Prelude.{ℕ, ◌++◌, List, [], ◌∷◌, length, map, take, drop, string_bytes}
 use Rattle.std.specs.List.{flat_map}
 use Rattle.orc_values.specs.Cells.{bool, int, date, text, bytes, Cell, null, leaf, list, struct, pairs, list_of_cells, list_of_pairs}
@@ -8,13 +9,13 @@ use Rattle.orc_row_batch.specs.declared.kept_cell.KeptCell.{KeptCell}
 use Rattle.orc_row_batch.specs.declared.kept_cell.KeptCell.TheVariants as kept_cell
 use Rattle.orc_row_batch.specs.declared.vector.ColumnVector.{ColumnVector}
 
--- a column's cells, the bytes of its texts, and those of its byte strings
+-- a column's cells, the bytes of its texts, and the bytes of its byte strings
 pub record KeptColumn : Type 0 where
   pub cells : List KeptCell
   pub texts : List ℕ
   pub bytes : List ℕ
 
--- of a column without a cell
+-- a column without cells
 abbrev pub nothing : KeptColumn
 nothing = record { cells = []; texts = []; bytes = [] }
 
@@ -24,7 +25,7 @@ kept v = record { cells = v.cells.items; texts = string_bytes v.texts; bytes = v
 
 -- ---- as it is kept
 
--- a text or a byte string by its length, a list or a map by its size
+-- a cell as it is kept: of a text or a byte string its length, of a list or a map its size
 abbrev pub kept_cell_of : Cell → KeptCell
 kept_cell_of null = kept_cell.Null
 kept_cell_of (leaf (bool b)) = kept_cell.Bool b
@@ -36,17 +37,17 @@ kept_cell_of (list cs) = kept_cell.List (length (list_of_cells cs))
 kept_cell_of (struct cs) = kept_cell.Struct
 kept_cell_of (pairs ps) = kept_cell.Map (length (list_of_pairs ps))
 
--- the bytes of a text
+-- the bytes of a cell that is a text; none of any other cell
 abbrev pub text_in : Cell → List ℕ
 text_in (leaf (text t)) = t
 text_in _ = []
 
--- the bytes of a byte string
+-- the bytes of a cell that is a byte string; none of any other cell
 abbrev pub binary_in : Cell → List ℕ
 binary_in (leaf (bytes b)) = b
 binary_in _ = []
 
--- a column's cells with others behind them
+-- a column with more cells added at its end
 abbrev pub with_cells : List Cell → KeptColumn → KeptColumn
 with_cells cs k = record {
   cells = k.cells ++ map kept_cell_of cs;
@@ -54,19 +55,19 @@ with_cells cs k = record {
   bytes = k.bytes ++ flat_map binary_in cs;
 }
 
--- ---- as it is told again
+-- ---- as it is read again
 
--- how many bytes a cell's text has, and none of another cell
+-- the length of a cell's text in bytes; 0 if the cell is no text
 abbrev pub text_size : KeptCell → ℕ
 text_size (kept_cell.Text n) = n
 text_size _ = 0
 
--- how many bytes a cell's byte string has, and none of another cell
+-- the length of a cell's byte string in bytes; 0 if the cell is no byte string
 abbrev pub bytes_size : KeptCell → ℕ
 bytes_size (kept_cell.Bytes n) = n
 bytes_size _ = 0
 
--- a cell, with its text or its byte string from the front of those that are left
+-- a cell, whose text or byte string is taken from the front of the bytes that are left
 abbrev pub cell_of : KeptCell → List ℕ → List ℕ → Cell
 cell_of kept_cell.Null texts strings = null
 cell_of (kept_cell.Bool b) texts strings = leaf (bool b)
@@ -78,12 +79,12 @@ cell_of (kept_cell.List n) texts strings = list_of_size n
 cell_of (kept_cell.Map n) texts strings = map_of_size n
 cell_of kept_cell.Struct texts strings = childless_struct
 
--- cells, each with its text or its byte string, which stand one after the other
+-- cells, whose texts and byte strings are taken from the joined bytes in order
 abbrev pub cells_from : List KeptCell → List ℕ → List ℕ → List Cell
 cells_from [] texts strings = []
 cells_from (k ∷ ks) texts strings =
     cell_of k texts strings ∷ cells_from ks (drop (text_size k) texts) (drop (bytes_size k) strings)
 
--- the cells that a column says, without the columns below
+-- the cells of a column, each without its children
 abbrev pub told : KeptColumn → List Cell
 told k = cells_from k.cells k.texts k.bytes

@@ -1,4 +1,4 @@
-//! What is left of a column's texts and byte strings, as its cells are gone through.
+//! The rest of a column's texts and byte strings while its cells are read in order.
 ghost use Rattle.std.specs.Prelude.{◌≡◌, take, drop, IfSome, OnSome};
 ghost use Rattle.orc_values.specs.Own.{own_cell};
 ghost use Rattle.orc_row_batch.specs.Kept.{cell_of, text_size, bytes_size};
@@ -6,7 +6,7 @@ ghost use Rattle.orc_row_batch.specs.Kept.{cell_of, text_size, bytes_size};
 use crate::kept_cell::KeptCell;
 use orc_values::Own;
 
-/// The texts, and the byte strings, of the cells that are still to come, one after the other.
+/// The texts and the byte strings of the cells that are still to be read, each joined in order.
 #[derive(Clone, Copy)]
 pub(crate) struct Blocks<'r> {
     pub(crate) texts: &'r str,
@@ -14,7 +14,8 @@ pub(crate) struct Blocks<'r> {
 }
 
 impl<'r> Blocks<'r> {
-    /// The next text, which has so many bytes; none where it would end behind the last or within a character.
+    /// Returns the next text, which has `size` bytes; `None` if fewer bytes are left or if it would end within a
+    /// character.
     fn next_text(&mut self, size: usize) -> Option<&'r str>
         ensures text { IfSome result (λ text. text.now ≡ take size self.old.texts.now) }
         ensures left { OnSome result (self.new.texts.now ≡ drop size self.old.texts.now) }
@@ -25,7 +26,7 @@ impl<'r> Blocks<'r> {
         Some(text)
     }
 
-    /// The next byte string, which has so many bytes; none where fewer are left.
+    /// Returns the next byte string, which has `size` bytes; `None` if fewer are left.
     fn next_bytes(&mut self, size: usize) -> Option<&'r [u8]>
         ensures bytes { IfSome result (λ bytes. bytes.now ≡ take size self.old.bytes.now) }
         ensures left { OnSome result (self.new.bytes.now ≡ drop size self.old.bytes.now) }
@@ -36,7 +37,7 @@ impl<'r> Blocks<'r> {
         Some(bytes)
     }
 
-    /// The next cell, with its text or its byte string; none where these aren't there.
+    /// Returns the next cell, with its text or its byte string; `None` if this can't be taken.
     pub(crate) fn next_own(&mut self, cell: KeptCell) -> Option<Own<'r>>
         ensures cell { IfSome result (λ own. own_cell own ≡ cell_of cell self.old.texts.now self.old.bytes.now) }
         ensures texts { OnSome result (self.new.texts.now ≡ drop (text_size cell) self.old.texts.now) }

@@ -1,4 +1,4 @@
-//! A row's way into the columns: each of its cells goes behind those of its own column.
+//! How a row enters the columns: each of its cells is added at the end of its column.
 ghost use Rattle.std.specs.Prelude.{◌≡◌, ◌+◌, ◌≤◌, ◌<◌, [], ◌∷◌, length, map, IfOk, OnOk};
 ghost use Rattle.orc_values.specs.Shapes.{width, widths};
 ghost use Rattle.orc_values.specs.Views.{view, views, paired, shape, fields as fields_view};
@@ -9,7 +9,7 @@ use crate::vector::ColumnVector;
 use orc_values::{Field, MapPair, Row, Tree, own_of, pairs_of, parts_of, width_of};
 use std::alloc::AllocError;
 
-/// Keeps a cell without its children in its column.
+/// Adds a cell without its children to a column.
 fn keep_one(
     columns: &mut Vec<ColumnVector>,
     column: usize,
@@ -22,7 +22,8 @@ fn keep_one(
     columns[column].push(own_of(cell))
 }
 
-/// Keeps a cell of a type, whose columns begin at a column, and all that is in it. Answers the column that comes next.
+/// Keeps a cell of the type `tree`, whose columns begin at `column`, and all cells within it. Returns the column after
+/// those of `tree`.
 #[cycle(keeping)]
 pub(crate) fn keep_cell(
     tree: &Tree,
@@ -108,7 +109,7 @@ fn keep_values(
     Ok(column + width_of(value))
 }
 
-/// Keeps the fields of a struct, of which a null struct has none.
+/// Keeps the fields of a struct. A null struct has none.
 #[cycle(keeping)]
 fn keep_fields(
     fields: &[Field],

@@ -1,7 +1,7 @@
-//! A cell that is kept as its own column says it.
+//! A cell as a batch keeps it in the cell's column.
 
-/// A cell as its own column says it, without the columns below, and without the bytes of a text or a byte string: these
-/// stand in a block of the column's, and the cell says how many they are.
+/// A cell without its children and without the bytes of its text or byte string. The column keeps these bytes in one
+/// block, and the cell has their number. A list or a map has the number of its elements or pairs.
 #[derive(Clone, Copy)]
 pub enum KeptCell {
     Null,

@@ -9,18 +9,20 @@ ghost use Rattle.orc_row_batch.specs.Batch.{Holds, column_cells, kept_rows};
 ghost use Rattle.orc_row_batch.specs.RowsFrom.{rows_from};
 ghost use Rattle.orc_row_batch.specs.declared.batch.RowBatch.{RowBatch};
 
-/// What the columns say of their own cells is enough: it gives the rows back.
+/// The cells of all columns, without their children, determine the rows.
 pub fn batch_laws()
-    // The rows that are made again from the columns of a batch are those that it holds.
+    // If a batch holds a list of rows of a type, then the rows of this type that are rebuilt from its columns are this
+    // list.
     ensures rows { (s : Shape) (rows : List Cell) (batch : RowBatch)
         → Holds s rows batch
         → kept_rows s batch ≡ rows }
-    // Each column of a batch says its own cells of the rows that it holds, without their children.
+    // If a batch holds a list of rows of a type, then the cells that it keeps for a column of the type are the cells of
+    // this column in the rows, each without its children.
     ensures own { (s : Shape) (rows : List Cell) (batch : RowBatch) (c : ℕ)
         → Holds s rows batch → c < width s
         → column_cells batch c ≡ map childless (cells s c rows) }
-    // Rows that fit are made again from what each column says of its own cells, without their
-    // children.
+    // If all rows of a list fit a type, then the rows of this type that are rebuilt from the cells of each column, each
+    // without its children, are this list.
     ensures columns { (s : Shape) (rows : List Cell)
         → RowsFit s rows
         → rows_from s (λ c. map childless (cells s c rows)) 0 ≡ rows }

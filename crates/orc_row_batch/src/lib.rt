@@ -1,5 +1,5 @@
-//! What a writer is given. Rows kept as columns: each row's cells go behind their columns' own lists as it comes, and the
-//! row may be dropped. And options, which say how the rows are written.
+//! What a writer is given: rows, which a batch keeps as columns, so that each row may be dropped once it was added; and
+//! options, by which the rows are written.
 #![tactic(auto)]
 
 mod batch;

@@ -5,8 +5,8 @@ ghost use Rattle.orc_values.specs.Limits.{cell_limit};
 use orc_rle::Rle;
 use orc_values::CELL_LIMIT;
 
-/// How stripes are written: the version of integer run lengths, after how many rows a group of the row index
-/// begins, and after how many rows a stripe ends.
+/// How stripes are written: the version of integer run lengths, the stride, which is the number of rows of a row group,
+/// and the number of rows of a stripe.
 #[derive(Clone, Copy, Debug, PartialEq, Eq)]
 pub struct Options {
     rle: Rle,
@@ -18,10 +18,10 @@ pub struct Options {
 }
 
 impl Options {
-    /// Options for stripes with a row index of a group each `stride` rows, or without one where it is 0. A stripe
-    /// may have 1 to 2,147,483,647 rows.
+    /// Makes options for stripes of `stripe_rows` rows, with a row index that has an entry for each `stride` rows, or
+    /// without a row index if `stride` is 0.
     ///
-    /// `None` where `stripe_rows` is 0 or more than that.
+    /// Returns `None` if `stripe_rows` is 0 or more than 2,147,483,647.
     pub fn new(rle: Rle, stride: u32, stripe_rows: u32) -> Option<Options>
         // Returned options have the `rle`, the `stride` and the `stripe_rows` that `new` was given.
         ensures some { IfSome result (λ options. (options.rle ≡ rle)
@@ -40,27 +40,27 @@ impl Options {
         })
     }
 
-    /// The version of integer run lengths.
+    /// Returns the version of integer run lengths.
     pub fn rle(self) -> Rle
-        // The answer is the version of integer runs that the options have.
+        // The answer is the options' version of integer run lengths.
         ensures { result ≡ self.rle }
     {
         self.rle
     }
 
-    /// After how many rows a group of the row index begins; 0 where there is none.
+    /// Returns the number of rows of a row group; 0 if there is no row index.
     pub fn stride(self) -> u32
-        // The answer is after how many rows a group begins by the options.
+        // The answer is the options' stride.
         ensures { result ≡ self.stride }
     {
         self.stride
     }
 
-    /// After how many rows a stripe ends.
+    /// Returns the number of rows of a stripe. The last stripe of a file may have fewer.
     pub fn stripe_rows(self) -> u32
-        // The answer is after how many rows a stripe ends by the options.
+        // The answer is the options' number of rows of a stripe.
         ensures rows { result ≡ self.stripe_rows }
-        // A stripe's rows are 1 to 2,147,483,647 then.
+        // The answer is between 1 and 2,147,483,647.
         ensures some { 0 < result }
         ensures most { result < cell_limit }
     {

@@ -1,4 +1,4 @@
-//! A column's cells as they are kept.
+//! A column's cells as a batch keeps them.
 ghost use Rattle.std.specs.Prelude.{◌≡◌, ◌++◌, [], ◌∷◌, map, length, string_bytes, IfOk, OnOk};
 ghost use Rattle.orc_values.specs.Own.{own_cell};
 ghost use Rattle.orc_row_batch.specs.Kept.{kept, kept_cell_of, text_in, binary_in, nothing, with_cells, told};
@@ -8,8 +8,8 @@ use crate::kept_cell::KeptCell;
 use orc_values::Own;
 use std::alloc::{AllocError, Global};
 
-/// A column's cells as the column itself says them. Its texts stand in one block, and so do its byte strings, each in the
-/// order of the cells: so a cell is small, and none needs room of its own.
+/// A column's cells, without their children. All texts of the column are kept in one block, and all its byte strings in
+/// another, in the order of the cells: so a cell is small, and no cell needs an allocation of its own.
 #[derive(Drop)]
 pub(crate) struct ColumnVector {
     cells: Vec<KeptCell>,
@@ -18,7 +18,7 @@ pub(crate) struct ColumnVector {
 }
 
 impl ColumnVector {
-    /// Keeps no cell yet.
+    /// Makes a vector without cells.
     pub(crate) fn new(alloc: Global) -> ColumnVector
         ensures { kept result ≡ nothing }
     {
@@ -29,14 +29,14 @@ impl ColumnVector {
         }
     }
 
-    /// How many cells it keeps.
+    /// Returns the number of cells.
     pub(crate) fn len(&self) -> usize
         ensures { result ≡ length self.now.cells.items }
     {
         self.cells.len()
     }
 
-    /// Keeps no cell any more. The room stays.
+    /// Removes all cells and keeps the allocated memory.
     pub(crate) fn clear(&mut self)
         ensures { kept self.new ≡ nothing }
     {
@@ -45,7 +45,7 @@ impl ColumnVector {
         self.bytes.clear();
     }
 
-    /// Keeps the bytes of a cell that is a text or a byte string. Answers the cell without them.
+    /// Keeps the bytes of a text or a byte string. Returns the cell without them.
     #[tactic(auto, using(orc_values::proofs::Childless::elements_many, orc_values::proofs::Childless::pairs_many))]
     fn push_bytes(&mut self, own: Own<'_>) -> Result<KeptCell, AllocError>
         ensures cell { IfOk result (λ cell. cell ≡ kept_cell_of (own_cell own.entry)) }
@@ -72,7 +72,7 @@ impl ColumnVector {
         }
     }
 
-    /// Keeps a cell behind the others. Where memory is refused, a part of it may be kept.
+    /// Adds a cell at the end. If memory is refused, the bytes of the cell may be kept without the cell.
     pub(crate) fn push(&mut self, own: Own<'_>) -> Result<(), AllocError>
         ensures { OnOk result (kept self.new ≡ with_cells (own_cell own.entry ∷ []) (kept self.old)) }
     {
@@ -81,7 +81,8 @@ impl ColumnVector {
         Ok(())
     }
 
-    /// What the column says of its cells. The blocks have each cell's bytes, so the refusal comes for want of memory only.
+    /// Returns the cells with their texts and byte strings. The blocks have each cell's bytes, so the call fails only
+    /// if there is no memory.
     pub(crate) fn owns(&self, alloc: Global) -> Result<Vec<Own<'_>>, AllocError>
         ensures { IfOk result (λ owns. map own_cell owns.items ≡ told (kept self.now)) }
     {
