@@ -1,5 +1,5 @@
--- What is counted of one column before each group of rows, on the way down to it from the root (own; ORC specification,
--- "Row Group Index", "Types": columns are numbered in pre-order).
+-- What one column has before each row group, counted on the path from the root down to the column (this project's; ORC
+-- specification, "Row Group Index", "Types": columns are numbered in pre-order).
 use Rattle.std.specs.Prelude.{◌≡◌, ℕ, ◌+◌, ◌<◌, ◌≤◌, List, length}
 use Rattle.orc_values.specs.Cells.{Cell, values}
 use Rattle.orc_values.specs.Columns.{cells}
@@ -18,15 +18,16 @@ use Rattle.orc_row_groups.specs.Subtrees.{AreColumnsFrom, AreFieldsFrom, FieldsF
 use Rattle.orc_stripe_reader.specs.Opened.{Opened}
 use Rattle.orc_stripe_reader.specs.declared.groups.CellGroups.{CellGroups}
 
--- A column's cells are no more than a stripe may have of it; the first group begins with the first of them, and no group
--- before the one in front of it.
+-- A column doesn't have more cells than a column of a stripe may have. The first group begins at the first cell, and no
+-- group begins before the group in front of it.
 pub record AreGrouped (groups : CellGroups) : Type 0 where
   pub few : groups.count < cell_limit
   pub ascending : AreBounds groups.count groups.bounds.items
   pub first : bound_at groups.count groups.bounds.items 0 ≡ 0
 
--- Columns x of a type s spell rows. Those from number c on are the columns of a type t over so many cells of the rows, of
--- which so many come before each group; `firsts` says how many rows do.
+-- Columns x of a type s spell rows. The columns from number c on are the columns of a type t over the cells `here` of
+-- the rows. `groups` has the number of these cells and how many of them come before each group; `firsts` has how many
+-- rows come before each group.
 pub record ComesNext (s : Shape) (x : ℕ → Streams) (count : ℕ) (rows : List Cell) (firsts : List ℕ) (c : ℕ) (t : Shape)
     (here : List Cell) (groups : CellGroups) : Type 0 where
   pub spelled : SpellRows s x count rows
@@ -35,7 +36,8 @@ pub record ComesNext (s : Shape) (x : ℕ → Streams) (count : ℕ) (rows : Lis
   pub columns : AreColumnsFrom s rows c t here
   pub bounded : AreGroupsFrom s rows firsts c t here groups.bounds.items
 
--- the same of the fields of so many structs
+-- Columns x of a type s spell rows. The columns from number c on are the columns of the fields fs over `structs`.
+-- `groups` has the number of these structs and how many of them come before each group.
 pub record FieldsComeNext (s : Shape) (x : ℕ → Streams) (count : ℕ) (rows : List Cell) (firsts : List ℕ) (c : ℕ)
     (fs : Fields) (structs : List (List Cell)) (groups : CellGroups) : Type 0 where
   pub spelled : SpellRows s x count rows
@@ -45,51 +47,51 @@ pub record FieldsComeNext (s : Shape) (x : ℕ → Streams) (count : ℕ) (rows 
   pub columns : AreFieldsFrom s rows c fs structs
   pub bounded : AreFieldGroupsFrom s rows firsts c fs structs groups.bounds.items
 
--- so many children have the cells of a column, and so many of these come before each group
+-- `below` has the number of children of a column's cells, and how many children come before each group
 abbrev pub AreGroupsBelow : Shape → List Cell → CellGroups → CellGroups → Type 0
 AreGroupsBelow t here groups below =
     (below.count ≡ children t (values here))
     × (below.bounds.items ≡ bounds_below t here groups.bounds.items)
 
--- a column's children are these, wherever it comes next
+-- `below` counts the children of column c, whatever rows the columns spell
 abbrev pub Leads : (ℕ → Streams) → ℕ → Shape → CellGroups → CellGroups → Type 0
 Leads x c t groups below =
     (s : Shape) (count : ℕ) (rows : List Cell) (firsts : List ℕ) (here : List Cell)
     → ComesNext s x count rows firsts c t here groups → AreGroupsBelow t here groups below
 
--- something is so of all rows of which these columns come next
+-- a statement holds for all rows that the columns spell, with a type t over `groups` from number c on
 abbrev pub InRows : (Shape → List Cell → List ℕ → Type 0) → (ℕ → Streams) → ℕ → Shape → CellGroups → Type 0
 InRows so x c t groups =
     (s : Shape) (count : ℕ) (rows : List Cell) (firsts : List ℕ) (here : List Cell)
     → ComesNext s x count rows firsts c t here groups → so s rows firsts
 
--- the same where they are those of fields
+-- a statement holds for all rows that the columns spell, with the fields fs over `groups` from number c on
 abbrev pub InStructs : (Shape → List Cell → List ℕ → Type 0) → (ℕ → Streams) → ℕ → Fields → CellGroups → Type 0
 InStructs so x c fs groups =
     (s : Shape) (count : ℕ) (rows : List Cell) (firsts : List ℕ) (structs : List (List Cell))
     → FieldsComeNext s x count rows firsts c fs structs groups → so s rows firsts
 
--- what is counted of a column's cells in the rows before each group
+-- the counts are those of a column's cells in the rows before each group
 abbrev pub AreCountedOver : ℕ → List Counts → Shape → List Cell → List ℕ → Type 0
 AreCountedOver column counts s rows firsts =
     AreCountedBefore counts (cells s column rows) (bounds_of s column rows firsts) (length firsts)
 
--- it is what is counted of the column in all such rows
+-- the counts are those of the column in all rows that the columns spell
 abbrev pub AreCountedIn : (ℕ → Streams) → ℕ → Shape → CellGroups → ℕ → List Counts → Type 0
 AreCountedIn x c t groups column counts = InRows (AreCountedOver column counts) x c t groups
 
--- the same of a column of structs' fields
+-- the counts are those of a column of structs' fields, in all rows that the columns spell
 abbrev pub AreCountedWithin : (ℕ → Streams) → ℕ → Fields → CellGroups → ℕ → List Counts → Type 0
 AreCountedWithin x c fs groups column counts = InStructs (AreCountedOver column counts) x c fs groups
 
--- where there are such rows, only want of memory is refused
+-- if the columns spell rows, the fault is want of memory
 abbrev pub IsMemoryIn : (ℕ → Streams) → ℕ → Shape → CellGroups → StripeFault → Type 0
 IsMemoryIn x c t groups f = InRows (λ s rows firsts. f ≡ fault.OutOfMemory) x c t groups
 
--- the same of structs' fields
+-- if the columns spell rows with these fields, the fault is want of memory
 abbrev pub IsMemoryWithin : (ℕ → Streams) → ℕ → Fields → CellGroups → StripeFault → Type 0
 IsMemoryWithin x c fs groups f = InStructs (λ s rows firsts. f ≡ fault.OutOfMemory) x c fs groups
 
--- what is counted of a column of a stripe's rows before each group that its index tells of
+-- the counts are those of a column in a stripe's rows before each group of its row index
 abbrev pub AreCountedOf : Opened → List Cell → ℕ → List Counts → Type 0
 AreCountedOf view rows column counts = AreCountedOver column counts view.schema rows (starts_of_groups view.stride (length rows))

@@ -14,11 +14,11 @@ use Rattle.orc_stripe_reader.specs.declared.view.index_texts.IndexText.{IndexTex
 abbrev pub kept_index_bytes : IndexText → Option (List ℕ)
 kept_index_bytes text = option_map (λ bytes. bytes.now) text.bytes
 
--- those of a column
+-- the bytes that are kept for column c, if any
 abbrev pub index_at : List IndexText → ℕ → Option (List ℕ)
 index_at texts c = kept_index_bytes (get_or texts c (record { bytes = None }))
 
--- what is there, or the other
+-- the first value if there is one, else the second
 abbrev pub or_else : {X : Type 0} → Option X → Option X → Option X
 or_else (Some x) other = Some x
 or_else None other = other
@@ -36,7 +36,7 @@ IsIndexText (Some bytes) message = Spells row_index 0 0 bytes message
 abbrev pub IsMessage : IndexText → RowIndexMsg → Type 0
 IsMessage text message = IsIndexText (kept_index_bytes text) message
 
--- of each of so many columns the bytes that the directory gives
+-- for each of `columns` columns the bytes that the directory gives
 pub record AreIndexTexts (columns : ℕ) (streams : List StreamMsg) (bytes : List ℕ) (texts : List IndexText) : Type 0 where
   pub counted : length texts ≡ columns
   pub are : (c : ℕ) → c < columns → index_at texts c ≡ listed c streams bytes

@@ -1,4 +1,4 @@
--- Why bytes have no directory that a reader accepts (ORC specification, "Stripe Footer").
+-- Why bytes aren't opened as a stripe (ORC specification, "Stripe Footer").
 use Rattle.std.specs.Prelude.{◌≡◌, ◌≢◌, ℕ, ◌+◌, false, Some, List, length, drop, ◌⊎◌}
 use Rattle.orc_values.specs.Shapes.{Shape, width}
 use Rattle.orc_wire.specs.Types.{types}
@@ -10,7 +10,7 @@ use Rattle.orc_directory.specs.Directory.{is_directory, first_wrong}
 use Rattle.orc_directory.specs.declared.fault.StripeFault.{StripeFault}
 use Rattle.orc_directory.specs.declared.fault.StripeFault.TheVariants as fault
 
--- the bytes of a stripe's footer: those behind its index and its data
+-- the bytes of a stripe's footer: those after its index and its data
 abbrev pub stripe_footer_bytes : StripeInfo → List ℕ → List ℕ
 stripe_footer_bytes info bytes = drop (info.index_length + info.data_length) bytes
 
@@ -18,7 +18,8 @@ stripe_footer_bytes info bytes = drop (info.index_length + info.data_length) byt
 abbrev pub ReadsFooter : StripeInfo → List ℕ → StripeFooter → Type 0
 ReadsFooter info bytes footer = Spells stripe_footer 0 0 (stripe_footer_bytes info bytes) footer
 
--- the bytes are not as many as the three lengths say together, or the footer's streams are no directory
+-- there aren't as many bytes as the three lengths say together, or the footer reads and its streams are no valid
+-- directory
 abbrev pub HasBadDirectory : Shape → StripeInfo → List ℕ → Type 0
 HasBadDirectory schema info bytes =
     (length bytes ≢ info.index_length + info.data_length + info.footer_length)

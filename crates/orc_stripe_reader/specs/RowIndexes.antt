@@ -21,12 +21,12 @@ use Rattle.orc_stripe_reader.specs.Opened.{Opened}
 abbrev pub index_text : StripeFooter → List ℕ → ℕ → List ℕ
 index_text footer bytes c = slice c ROW_INDEX footer.streams bytes
 
--- the directory lists an index of column c, and its bytes are this message
+-- the directory lists a row index of column c, and its bytes are this message
 abbrev pub HasIndex : StripeFooter → List ℕ → ℕ → RowIndexMsg → Type 0
 HasIndex footer bytes c message =
     (has_stream c ROW_INDEX footer.streams ≡ true) × Spells row_index 0 0 (index_text footer bytes c) message
 
--- why a column has no index
+-- why column c has no row index that can be read
 abbrev pub IndexFault : Opened → ℕ → StripeFault → Type 0
 IndexFault view c (fault.NoIndex spot.Stripe) = view.stride ≡ 0
 IndexFault view c (fault.NoIndex (spot.Column column)) =
@@ -38,19 +38,19 @@ IndexFault view c (fault.Wire wire) =
 IndexFault view c fault.OutOfMemory = Unit {0}
 IndexFault view c _ = ⊥
 
--- the index has an entry for each group of so many rows
+-- the row index has an entry for each group of a number of rows
 abbrev pub HasEachGroup : Opened → ℕ → RowIndexMsg → Type 0
 HasEachGroup view rows message = length message.entries ≡ group_count view.stride rows
 
--- each entry has a truth value that says whether its positions are those behind the column's cells of the rows
--- before its group
+-- each entry has a truth value, which is true if and only if a reader goes on from the entry's positions after the
+-- column's cells of the rows before the group
 abbrev pub ArePositionsDecided : Opened → ℕ → List Cell → RowIndexMsg → List Bool → Type 0
 ArePositionsDecided view c rows message right =
     AreDecided (shape_at view.schema c) (columns_of view.footer view.bytes c) (cells view.schema c rows)
     (bounds_of view.schema c rows (starts_of_groups view.stride (length rows)))
     message.entries right
 
--- an index that has another number of entries
+-- column c has a row index with another number of entries than the rows have groups
 abbrev pub HasOtherEntries : Opened → ℕ → ℕ → StripeFault → Type 0
 HasOtherEntries view c rows f =
     (f ≡ fault.BadPosition (spot.Column c))

@@ -7,7 +7,7 @@ use orc_column_reader::ColumnReader;
 use orc_values::Tree;
 use std::alloc::Global;
 
-/// The rows of a stripe, one after the other. It keeps one run of each stream of runs, and dictionaries whole.
+/// The rows of a stripe, one after the other. A cursor keeps one run of each stream of runs, and whole dictionaries.
 #[derive(Drop)]
 pub struct RowCursor<'a> {
     pub(crate) alloc: Global,

@@ -1,4 +1,5 @@
-//! What is counted of one column before each group of rows, on the way down to it from the root. No row is made.
+//! Counts what one column has before each row group, reading the columns on the path from the root to it. No row is
+//! made.
 ghost use Rattle.std.specs.Prelude.{◌≡◌, ◌<◌, ◌≤◌, ◌+◌, map, length, IfOk, IfErr};
 ghost use Rattle.orc_values.specs.Shapes.{width, widths};
 ghost use Rattle.orc_values.specs.Views.{shape, fields as fields_view};
@@ -21,7 +22,7 @@ pub(crate) struct CellGroups {
     pub(crate) bounds: Vec<usize>,
 }
 
-/// What is counted of the cells before each group.
+/// Takes from each group the counts of the cells before it.
 fn counts_before(alloc: Global, groups: &[GroupFound]) -> Result<Vec<Counts>, AllocError>
     ensures { IfOk result (λ counts. counts.items ≡ map (λ (group : Group). group.before) groups.now) }
 {
@@ -32,14 +33,14 @@ fn counts_before(alloc: Global, groups: &[GroupFound]) -> Result<Vec<Counts>, Al
     Ok(counts)
 }
 
-/// A column that was read: what is counted before each group, and the cells of the columns right below.
+/// A column that was read: the counts before each group, and the number of cells of its children.
 #[derive(Drop)]
 struct Level {
     counts: Vec<Counts>,
     below: CellGroups,
 }
 
-/// Reads a column of so many cells.
+/// Reads a column that has `cells.count` cells.
 fn read_level(
     alloc: Global,
     tree: &Tree,
@@ -80,8 +81,8 @@ fn read_level(
     Ok(Level { counts, below })
 }
 
-/// What is counted of a column before each group, where it is this first one or one below it. Each column on the way is
-/// read with as many cells, and as many of them before each group, as the one above has children.
+/// Counts the cells of `column` before each group. `column` is the column `first`, whose type is `tree`, or one below
+/// it. Each column on the path is read for as many cells, in all and before each group, as its parent has children.
 #[cycle(down)]
 pub(crate) fn count_column(
     alloc: Global,
@@ -130,7 +131,7 @@ pub(crate) fn count_column(
     }
 }
 
-/// The same where it is one of the columns of fields, of so many structs.
+/// Counts the cells of `column` before each group, if it is a column of the fields of `cells.count` structs.
 #[cycle(down)]
 fn count_within(
     alloc: Global,

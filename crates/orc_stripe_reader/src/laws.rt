@@ -1,4 +1,4 @@
-//! Laws of columns, stripes and groups of rows. Each function does nothing: its contract is what it is for.
+//! Laws of columns, stripes and row groups. Each function does nothing: its contract is what it is for.
 ghost use Rattle.orc_column_reader.specs.declared.column.ColumnReader.{ColumnReader};
 ghost use Rattle.orc_column_reader.specs.Columns.{CellsLeft};
 ghost use Rattle.orc_column_reader.specs.Faults.{HasFault};
@@ -17,48 +17,52 @@ ghost use Rattle.orc_wire.specs.declared.row_index.RowIndexMsg.{RowIndexMsg};
 ghost use Rattle.orc_wire.specs.declared.stripe_info.StripeInfo.{StripeInfo};
 ghost use Rattle.orc_wire.specs.declared.stripe_footer.StripeFooter.{StripeFooter};
 
-/// Laws of columns: streams spell at most one list of rows; and rows are spelled column by column, by
-/// the columns' numbers, exactly where they are spelled going down the schema.
+/// Laws of columns: streams spell at most one list of rows, and they spell rows column by column, by the columns'
+/// numbers, if and only if they spell them recursively, down the schema.
 pub fn column_laws()
-    // Streams spell one list of so many rows at most.
+    // Columns' streams spell at most one list of a given number of rows of a schema.
     ensures one_list { (s : Shape) (columns : ℕ → Streams) (count : ℕ) (a b : List Cell)
         → SpellRows s columns count a → SpellRows s columns count b
         → a ≡ b }
-    // Fewer than 2^31 rows that the streams spell going down the schema are spelled by the columns'
-    // numbers.
+    // If columns' streams spell fewer than 2^31 rows recursively, down a schema, then they spell these rows column by
+    // column, too.
     ensures by_number { (s : Shape) (columns : ℕ → Streams) (rows : List Cell)
         → length rows < cell_limit → SpellsCells s columns rows
         → SpellRows s columns (length rows) rows }
-    // Rows that the streams spell by the columns' numbers are spelled going down the schema.
+    // If columns' streams spell rows of a schema column by column, then they spell these rows recursively, down the
+    // schema, too.
     ensures by_tree { (s : Shape) (columns : ℕ → Streams) (count : ℕ) (rows : List Cell)
         → SpellRows s columns count rows
         → SpellsCells s columns rows }
 {}
 
-/// Bytes are a stripe of at most one list of rows.
+/// Laws of stripes: bytes have at most one footer and at most one list of rows.
 pub fn stripe_laws()
-    // Bytes are a stripe with one footer at most.
+    // For a schema and a stripe's record, bytes are a stripe with at most one footer.
     ensures one_footer { (s : Shape) (info : StripeInfo) (bytes : List ℕ) (a b : StripeFooter)
         → HasFooter s info bytes a → HasFooter s info bytes b
         → a ≡ b }
-    // Bytes are a stripe of one list of rows at most.
+    // For a schema and a stripe's record, bytes are a stripe of at most one list of rows.
     ensures one_list { (s : Shape) (info : StripeInfo) (bytes : List ℕ) (a b : List Cell)
         → IsStripe s info bytes a → IsStripe s info bytes b → a ≡ b }
 {}
 
-/// A stripe starts at a group where the positions of each column's entry are right, as `positions_right` tells them. What
-/// stands behind positions is one list of rows, which are of the schema. What is met behind positions that are right as
-/// far as they go is a fault of the stripe itself.
+/// Laws of row groups: reading may start at a group if the positions in each column's entry are right, which
+/// `positions_right` decides. From the positions on, the streams spell at most one list of rows, and these fit the
+/// schema. A fault that is found from positions after the rows before a group is a fault of the stripe itself.
 pub fn group_laws()
-    // Where the columns' streams spell the rows, and each column's index has an entry of the group
-    // with positions that are right, the stripe starts at the group.
+    // If the columns' streams of a stripe spell rows of the schema, as many as the stripe's record says, the stripe has
+    // a group, each column's row index has an entry for each group, and the positions in this group's entries are right
+    // for these rows, then the stripe starts at this group with these rows, as `StripeView::cursor_at` needs it.
     ensures starts { (view : Opened) (rows : List Cell) (group : ℕ)
         → SpellRows view.schema (columns_of view.footer view.bytes) view.info.number_of_rows rows
         → HasGroup view group
         → ((c : ℕ) → c < width view.schema → HasRightEntry view rows c group)
         → StartsGroup view (columns_of view.footer view.bytes) rows group }
-    // Where it is decided of each entry of a column's index whether its positions are right, an
-    // entry of which the answer is true is right.
+    // If a list has as many rows as a stripe's record says, the stripe has a group, a column's row index reads and has
+    // an entry for each group of the rows, a list of truth values says of each entry whether its positions are right
+    // for these rows, and the truth value of the group is true, then the row index has an entry of the group, whose
+    // positions are right for these rows.
     ensures right { (view : Opened) (rows : List Cell) (c group : ℕ) (message : RowIndexMsg) (right : List Bool)
         → length rows ≡ view.info.number_of_rows
         → HasGroup view group
@@ -66,20 +70,23 @@ pub fn group_laws()
         → HasEachGroup view (length rows) message
         → ArePositionsDecided view c rows message right
         → slice_get right group ≡ Some true → HasRightEntry view rows c group }
-    // One list of rows stands behind a group's positions at most.
+    // A stripe's streams spell at most one list of rows from the positions in a group's entries on.
     ensures one_list { (view : Opened) (group : ℕ) (a b : List Cell)
         → SpellsFrom view group a → SpellsFrom view group b → a ≡ b }
-    // What stands there are rows of the schema, whatever the positions are.
+    // If a stripe's streams spell rows from the positions in a group's entries on, then these rows fit the schema,
+    // whatever the positions are.
     ensures fit { (view : Opened) (group : ℕ) (rows : List Cell)
         → SpellsFrom view group rows → RowsFit view.schema rows }
-    // Where the group's positions are behind rows before it that fit, a fault that is met from
-    // there on is one of the stripe itself.
+    // If a stripe has a group, there are rows that fit the schema, as many as come before the group, and in each column
+    // the positions in the group's entry are positions after the column's cells of these rows, then a fault that the
+    // streams have from these positions on, for as many rows as the stripe has from the group on, is a fault that a
+    // column of the schema has in the stripe's streams.
     ensures faults { (view : Opened) (before : List Cell) (group : ℕ) (f : StripeFault)
         → LeadsBehind view before group → MeetsFrom view group f
         → HasFault view.schema (columns_of view.footer view.bytes) view.info.number_of_rows f }
 {}
 
-/// Readers at the start of a column's streams, and of those below it, spell what the streams spell.
+/// Readers at the start of the streams of a column and of the columns below it spell what the streams spell.
 pub(crate) fn reader_laws()
     ensures found { (s : Shape) (columns : ℕ → Streams) (readers : List ColumnReader) (cells : List Cell)
         → TreeStart s columns readers

@@ -1,4 +1,4 @@
-//! Stripes that are read: columns and streams to rows. What streams spell is said by `orc_column_reader`.
+//! Reads stripes: from columns and streams to rows. `orc_column_reader` defines what streams spell.
 #![tactic(auto)]
 
 mod cursor;

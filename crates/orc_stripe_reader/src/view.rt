@@ -1,4 +1,4 @@
-//! A stripe of which the directory and the encodings are accepted, and its rows: all at once, or by a cursor.
+//! A stripe whose directory and encodings are accepted, and its rows: all together, or one by one with a cursor.
 ghost use Rattle.std.specs.Prelude.{◌≡◌, ◌≢◌, ◌+◌, ℕ, List, true, false, Some, None, ◌⊎◌, IfOk, IfErr, MatchResult, length, drop};
 ghost use Rattle.orc_values.specs.Cells.{Cell};
 ghost use Rattle.orc_wire.specs.declared.stripe_footer.StripeFooter.{StripeFooter};
@@ -27,15 +27,15 @@ use std::marker::Model;
 
 /// A stripe whose directory and encodings are accepted.
 ///
-/// `HasFooter` says that bytes are a stripe with a footer, whose directory and encodings are
-/// accepted, `SpellRows` that columns spell so many rows, and `IsStripe` both together. The
-/// columns' streams are those that the footer's directory gives, `columns_of`.
+/// `HasFooter` says that bytes are a stripe with a footer whose directory and encodings are accepted, `SpellRows` that
+/// columns' streams spell a number of rows, and `IsStripe` both together. The columns' streams are those that the
+/// footer's directory gives, `columns_of`.
 ///
-/// `HasFault` is a fault of one of the schema's columns: one that a column of its kind and encoding
-/// can have, and true of its streams. What is wrong with values that are spelled is a line each in
-/// `specs/ValueFaults`, with runs in `specs/RunFaults` of `orc_column_reader`. It goes down the
-/// schema, since the marks and lengths of the columns above a column say how many values it needs
-/// of its streams (`specs/Needs`): all of these, or those that come first.
+/// `HasFault` says that one of the schema's columns has a fault: one that a column of its kind and encoding can have,
+/// and that its streams do have. `orc_column_reader` defines the faults of values in `specs/ValueFaults` and those of
+/// runs in `specs/RunFaults`. `HasFault` goes down the schema, because the marks and lengths of the columns above a
+/// column decide how many values it needs from its streams (`specs/Needs`): the whole number, or the number that their
+/// first marks and lengths give.
 #[derive(Drop)]
 pub struct StripeView<'a> {
     schema: &'a Schema,
@@ -62,12 +62,17 @@ impl<'a> Model for StripeView<'a> {
 }
 
 impl<'a> StripeView<'a> {
-    /// The view of a stripe's bytes. Nothing is decoded but the footer.
+    /// Opens a view of a stripe's bytes. Only the footer is decoded (ORC specification, "Stripe Footer").
     ///
-    /// Refusals: `BadDirectory` where the bytes are not as many as the three lengths say, or the streams
-    /// have no room in index and data, or a kind is used twice for one column, or a stream that needs a
-    /// column has none; `BadEncoding` with the first column that has no encoding, or one that its type
-    /// can't have; `Wire`; `OutOfMemory`.
+    /// # Errors
+    ///
+    /// - `BadDirectory` if there aren't as many bytes as the three lengths in `info` say together, if the streams don't
+    ///   fit into index and data, if a column has two streams of one kind, or if a stream needs a column that doesn't
+    ///   exist;
+    /// - `BadEncoding` with the number of the first column that has no encoding, or one that its type can't have, or of
+    ///   the first encoding that has no column;
+    /// - `Wire` if the footer's bytes are no valid message;
+    /// - `OutOfMemory` if there is no memory.
     pub fn open(
         alloc: Global,
         schema: &'a Schema,
@@ -130,31 +135,35 @@ impl<'a> StripeView<'a> {
         }
     }
 
-    /// The rows of the stripe. Their texts and bytes are slices of the stripe. No memory is set aside by
-    /// a number that was read.
+    /// Reads the rows of the stripe. Their texts and byte strings are slices of the stripe's bytes. No number read from
+    /// the stripe decides how much memory is allocated.
     ///
-    /// Refusals, each with the number of the column, and the kind of the stream where one is
-    /// concerned: `Run` where a stream has no such runs, or too few or too many of them, with the
-    /// fault that `decode` has for as many values as the column needs; `NotUtf8` of a text;
-    /// `BadIndex` of an index that isn't below its dictionary's size; `LengthSum` where a stream of
-    /// bytes has another length than its LENGTHs say; `OutOfRange` of a number outside of its
-    /// column's type; `TooMany` where a column has more than 2,147,483,647 cells, with the number
-    /// of the LIST or MAP above it, or of the root where the rows are more; and `OutOfMemory`.
-    /// Which of several is answered is open.
+    /// # Errors
     ///
-    /// What `Run` says: the stream's bytes begin with whole runs of the column's version and sign,
-    /// of at most as many values as it needs. At the fault's place, behind these, come bytes that
-    /// have no run in front, and the fault is theirs; or a run that passes the number, and it is
-    /// `TooMany`; or nothing, though values are missing, and it is `TooFew` at the length of the
-    /// bytes. Where the streams above say that number by their first marks and lengths alone, it is
-    /// so for each number from theirs on.
+    /// Each error has the number of its column, and the kind of the stream if it concerns one. Which of several faults
+    /// is returned is unspecified.
     ///
-    /// The others are true of the numbers that come first in the stream, in whole runs.
-    /// `OutOfRange`: one of DATA's isn't in the column's type; never of a LONG. `BadIndex`: one of
-    /// DATA's isn't below the dictionary's size. `NotUtf8`: what the LENGTHs cut off the front of
-    /// DATA isn't all UTF-8, or an entry that one of DATA's indexes names isn't. `LengthSum`: the
-    /// LENGTHs that come first are more than the bytes, or all of them are less. `TooMany`: those
-    /// that come first are more than 2,147,483,647.
+    /// - `Run` if a stream has no valid runs, or too few or too many, with the fault that `decode` has for as many
+    ///   values as the column needs;
+    /// - `NotUtf8` if a text isn't UTF-8;
+    /// - `BadIndex` if an index isn't below the size of its dictionary;
+    /// - `LengthSum` if a stream of bytes doesn't have the length that its LENGTHs give together;
+    /// - `OutOfRange` if a number is outside of its column's type;
+    /// - `TooMany` if a column has more than 2,147,483,647 cells, with the number of the LIST or MAP above it, or of
+    ///   the root if there are more rows than that;
+    /// - `OutOfMemory` if there is no memory.
+    ///
+    /// `Run` means: the stream's bytes begin with whole runs of the column's version and sign, which have at most as
+    /// many values as the column needs. After these runs, at the fault's place, come bytes that don't begin with a run,
+    /// and the fault is that of these bytes; or a run that has more values than are needed, and the fault is `TooMany`;
+    /// or no byte although values are missing, and the fault is `TooFew` at the length of the bytes. If only the first
+    /// marks and lengths of the streams above are known, the fault holds for their number and for each larger one.
+    ///
+    /// The other errors are about the numbers that come first in the stream, in whole runs. `OutOfRange`: one of DATA's
+    /// numbers isn't in the column's type, which isn't LONG. `BadIndex`: one of DATA's numbers isn't below the
+    /// dictionary's size. `NotUtf8`: one of the texts that the LENGTHs cut off the front of DATA isn't UTF-8, or an
+    /// entry that one of DATA's indexes names isn't. `LengthSum`: the first LENGTHs are together more than the bytes,
+    /// or all LENGTHs are together less. `TooMany`: the first LENGTHs are together more than 2,147,483,647.
     pub fn rows(&self, alloc: Global) -> Result<Vec<Row<'a>>, StripeFault>
         // The view's bytes are a stripe of the returned rows: they have a valid footer, the number of rows is the one
         // in the stripe's record, each row fits the schema, no column has more than 2,147,483,647 cells, and each
@@ -181,9 +190,11 @@ impl<'a> StripeView<'a> {
         }
     }
 
-    /// A cursor at the first row. Dictionaries are read, and nothing else but the directory.
+    /// Returns a cursor at the first row. It reads the directory and the dictionaries, and nothing else.
     ///
-    /// Refusals: those of `rows`; where the rows are more than 2,147,483,647, `TooMany(0)`.
+    /// # Errors
+    ///
+    /// Those of `rows`; `TooMany(0)` if the stripe has more than 2,147,483,647 rows.
     pub fn cursor(&self, alloc: Global) -> Result<RowCursor<'a>, StripeFault>
         // If rows are the remaining rows of a returned cursor, then the view's bytes are a stripe of these rows.
         ensures found { IfOk result (λ cursor. (rows : List Cell) → StandsFor cursor rows

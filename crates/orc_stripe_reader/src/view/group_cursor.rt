@@ -1,4 +1,4 @@
-//! A cursor in the middle of a stripe, at the first row of a group.
+//! A cursor in the middle of a stripe, at the first row of a row group.
 ghost use Rattle.std.specs.Prelude.{◌≡◌, ◌≢◌, ◌*◌, ◌<◌, ℕ, Some, List, drop, length, slice_get, IfOk, IfErr, MatchResult};
 ghost use Rattle.orc_values.specs.Cells.{Cell};
 ghost use Rattle.orc_values.specs.Shapes.{width};
@@ -18,7 +18,7 @@ use orc_wire::RowIndexEntry;
 use std::alloc::Global;
 
 impl<'a> StripeView<'a> {
-    /// The entry of a group in a column's index.
+    /// Returns the entry of a group in a column's row index.
     fn group_entry(
         &self,
         alloc: Global,
@@ -43,7 +43,7 @@ impl<'a> StripeView<'a> {
         Ok(entries.swap_remove(group as usize))
     }
 
-    /// The entries of a group, one of each column.
+    /// Returns the entries of a group, one of each column.
     fn group_entries(&self, alloc: Global, group: u64) -> Result<Vec<RowIndexEntry>, StripeFault>
         requires { HasGroup self.now group }
         ensures counted { IfOk result (λ entries. length entries.items ≡ width self.now.schema) }
@@ -66,30 +66,34 @@ impl<'a> StripeView<'a> {
         Ok(entries)
     }
 
-    /// A cursor at the first row of a group, the rows from `group * stride` on (ORC specification,
-    /// "Row Group Index"). Each column is entered at the positions that its index has for the
-    /// group. What stands before a position's offset in its stream has no part in the rows, and
-    /// other groups' entries have none. Dictionaries are read whole.
+    /// Returns a cursor at the first row of a group, which is row `group * stride` of the stripe (ORC specification,
+    /// "Row Group Index"). Each column is read from the positions on that its row index has for the group. The bytes of
+    /// a stream before a position's offset have no effect on the rows, nor have the entries of other groups.
+    /// Dictionaries are read whole.
     ///
-    /// Where the group's positions are right in columns that spell rows, as many as the stripe has,
-    /// the cursor gives these from the group's first one on, and then none, and want of memory is
-    /// the only refusal. The columns may be the stripe's own, or those of any other with the same
-    /// encodings and dictionaries, streams as long, and the same bytes from the positions' offsets
-    /// on. They may be of every kind, nested, with a dictionary, in the middle of a run.
+    /// If the group's positions are right in columns that spell as many rows as the stripe has, the cursor gives these
+    /// rows from the group's first one on, and then none, and it fails only for want of memory. These columns may be
+    /// the stripe's own, or any others with the same encodings and dictionaries, with streams of the same lengths, and
+    /// with the same bytes from the positions' offsets on. Columns of every kind can be entered, nested ones, ones with
+    /// a dictionary, and in the middle of a run.
     ///
-    /// Refusals: `NoIndex`, of the stripe where the stride is 0, and of a column that has none;
-    /// `TooMany(0)` where the rows are more than 2,147,483,647; `BadPosition` of the stripe where
-    /// it has no such group, of a column where its index hasn't as many entries as there are
-    /// groups, or its entry not as many positions as the column's streams, and of a stream that a
-    /// position lies outside of; `Run` where no run is decoded there; `Wire`; those of a
-    /// dictionary; `OutOfMemory`. All indexes are read before a stream is. What the cursor refuses
-    /// later is a fault of the columns' streams as they stand from the positions on, with its place
-    /// in the stream.
+    /// # Errors
     ///
-    /// But for want of memory, `NoIndex` of the stripe comes just where the stride is 0. A fault of
-    /// a column's index or of its number of entries comes only where the stripe has the group; one
-    /// at the positions of a column's own entry only where each column has its entry of the group,
-    /// too.
+    /// - `NoIndex` of the stripe if the stride is 0, and for no other reason;
+    /// - `TooMany(0)` if the stripe has more than 2,147,483,647 rows;
+    /// - `BadPosition` of the stripe if it doesn't have the group;
+    /// - `NoIndex` of a column that has no row index, and `Wire` if its bytes are no valid message;
+    /// - `BadPosition` of a column if its row index doesn't have as many entries as there are groups, or if the group's
+    ///   entry doesn't have as many positions as the column's streams need;
+    /// - `BadPosition` of a stream if a position lies outside of it, and `Run` if no run can be decoded at the
+    ///   position;
+    /// - the errors of a dictionary;
+    /// - `OutOfMemory` if there is no memory.
+    ///
+    /// All row indexes are read before any stream. So a fault of a row index or of its number of entries comes only if
+    /// the stripe has the group, and a fault at an entry's positions comes only if each column has its entry of the
+    /// group. An error that the cursor gives later is a fault of the columns' streams as they are from the positions
+    /// on, with its place in the stream.
     pub fn cursor_at(&self, alloc: Global, group: u64) -> Result<RowCursor<'a>, StripeFault>
         // If the stripe has the group `group`, each column's row index has an entry for each group, and there are
         // columns' streams that spell as many rows as the stripe has, in which the positions in the entries of `group`

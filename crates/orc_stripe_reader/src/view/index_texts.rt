@@ -10,13 +10,13 @@ ghost use Rattle.orc_stripe_reader.specs.IndexTexts.{index_at, or_else, IsMessag
 use orc_wire::{Message, ROW_INDEX, RowIndexMsg, StreamMsg, WireFault};
 use std::alloc::{AllocError, Global};
 
-/// The bytes of a column's row index, where the directory lists one.
+/// The bytes of a column's row index, if the directory lists one.
 #[derive(Clone, Copy)]
 pub struct IndexText<'a> {
     pub bytes: Option<&'a [u8]>,
 }
 
-/// Keeps the bytes of a stream, if they are the first row index of its column.
+/// Keeps the bytes of a stream if it is the first row index of its column.
 fn keep_index<'a>(texts: &mut Vec<IndexText<'a>>, stream: &StreamMsg, bytes: &'a [u8])
     ensures len { length texts.new.items ≡ length texts.old.items }
     ensures kept { (column : ℕ) → column < length texts.old.items
@@ -29,9 +29,11 @@ fn keep_index<'a>(texts: &mut Vec<IndexText<'a>>, stream: &StreamMsg, bytes: &'a
     }
 }
 
-/// Finds the row indexes of so many columns.
+/// Finds the row indexes of `columns` columns.
 ///
-/// Refusal: want of memory.
+/// # Errors
+///
+/// `AllocError` if there is no memory.
 pub(crate) fn index_texts<'a>(
     alloc: Global,
     columns: usize,
@@ -51,7 +53,7 @@ pub(crate) fn index_texts<'a>(
     Ok(texts)
 }
 
-/// Whether memory ran out.
+/// Returns whether the fault is want of memory.
 fn is_memory(fault: WireFault) -> bool
     ensures { MatchBool result (fault ≡ OutOfMemory) (fault ≢ OutOfMemory) }
 {
@@ -61,13 +63,15 @@ fn is_memory(fault: WireFault) -> bool
     }
 }
 
-/// The message of a row index, if there is one and it reads.
+/// Reads the message of a row index. Returns `None` if there is no row index or if its bytes are no valid message.
 ///
-/// Refusal: want of memory.
+/// # Errors
+///
+/// `AllocError` if there is no memory.
 pub fn read_index(alloc: Global, text: &IndexText<'_>) -> Result<Option<RowIndexMsg>, AllocError>
-    // What is answered is the message that the bytes of the row index are.
+    // If the call returns a message, then `text` has bytes, and they are this message of a row index.
     ensures found { IfOk result (λ found. IfSome found (IsMessage text.now)) }
-    // None is answered only where there are no bytes, or they are no such message.
+    // If the call returns `None`, then `text` has no bytes, or they are no message of a row index.
     ensures none { result ≡ Ok None → (message : IndexMessage) → IsMessage text.now message → ⊥ }
 {
     let Some(bytes) = text.bytes else {

@@ -1,4 +1,4 @@
-//! What a stripe's columns are read from, each by itself.
+//! The parts of a stripe from which single columns are read.
 ghost use Rattle.std.specs.Prelude.{◌≡◌, length, IfOk, IfErr};
 ghost use Rattle.orc_values.specs.Shapes.{width};
 ghost use Rattle.orc_values.specs.Views.{shape};
@@ -15,33 +15,33 @@ use orc_wire::StripeFooter;
 use std::alloc::{AllocError, Global};
 
 impl<'a> StripeView<'a> {
-    /// The tree of the types of the columns.
+    /// Returns the tree of the columns' types.
     pub fn tree(&self) -> &'a Tree
-        // The tree is the schema's.
+        // The answer is a tree of the view's schema.
         ensures { shape result.now ≡ self.now.schema }
     {
         self.schema.tree()
     }
 
-    /// How many rows the stripe has, by its record.
+    /// Returns the number of rows that the stripe's record gives.
     pub fn number_of_rows(&self) -> u64
-        // The number of rows is that of the stripe's record.
+        // The answer is the number of rows in the record of the view's stripe.
         ensures { result ≡ self.now.info.number_of_rows }
     {
         self.info.number_of_rows
     }
 
-    /// How many rows an entry of a row index is for; 0 where there are no row indexes.
+    /// Returns the number of rows of a row group; 0 if there are no row indexes.
     pub fn stride(&self) -> u32
-        // The stride is the one that the view was opened with.
+        // The answer is the view's stride.
         ensures { result ≡ self.now.stride }
     {
         self.stride
     }
 
-    /// The footer, which has an encoding for each column.
+    /// Returns the footer, which has an encoding for each column.
     pub fn footer(&self) -> &StripeFooter
-        // The footer is the one that the view keeps, and the bytes are a stripe with it.
+        // The answer is the footer that the view keeps, and the view's bytes are a stripe with this footer.
         ensures same { result.now ≡ self.now.footer }
         ensures there { HasFooter self.now.schema self.now.info self.now.bytes self.now.footer }
     {
@@ -50,15 +50,19 @@ impl<'a> StripeView<'a> {
 
     /// Finds the streams of all columns, in one pass over the directory.
     ///
-    /// Refusal: `OutOfMemory`.
+    /// # Errors
+    ///
+    /// `OutOfMemory` if there is no memory.
     pub fn locate(&self, alloc: Global) -> Result<Located<'a>, StripeFault>
-        // Each column's streams are found where the directory says, in the stripe's bytes.
+        // If the call succeeds, then the answer has the view's bytes, and of each column for which the footer has an
+        // encoding it has each stream of a kind that cells are read from: the bytes that the footer's directory gives
+        // this stream within the view's bytes.
         ensures found { IfOk result (λ located. AreLocated (length self.now.footer.columns)
             self.now.footer.streams self.now.bytes located.slices.items) }
         ensures same { IfOk result (λ located. located.bytes.now ≡ self.now.bytes) }
-        // The footer has an encoding for each column.
+        // The view's footer has as many encodings as the schema has columns.
         ensures columns { length self.now.footer.columns ≡ width self.now.schema }
-        // The one refusal is want of memory.
+        // An error is `OutOfMemory`.
         ensures refused { IfErr result (λ fault. fault ≡ OutOfMemory) }
     {
         locate(alloc, &self.footer, self.bytes)
@@ -66,10 +70,12 @@ impl<'a> StripeView<'a> {
 
     /// Finds the bytes of the row indexes of all columns, in one pass over the directory.
     ///
-    /// Refusal: want of memory.
+    /// # Errors
+    ///
+    /// `AllocError` if there is no memory.
     pub fn index_texts(&self, alloc: Global) -> Result<Vec<IndexText<'a>>, AllocError>
-        // For each column the bytes of the first ROW_INDEX stream that the directory lists of it
-        // are answered, or none where it lists none.
+        // If the call succeeds, then the answer has one element for each column of the schema: the bytes of the first
+        // ROW_INDEX stream that the directory lists for the column, or none if the directory lists no such stream.
         ensures { IfOk result (λ texts.
             AreIndexTexts (width self.now.schema) self.now.footer.streams self.now.bytes texts.items) }
     {

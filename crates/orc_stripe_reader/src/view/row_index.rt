@@ -1,4 +1,4 @@
-//! Row indexes of a stripe, as they are read.
+//! Reads and checks the row indexes of a stripe.
 ghost use Rattle.std.specs.Prelude.{◌≡◌, ◌≢◌, ◌<◌, ◌⊎◌, ℕ, List, true, false, None, length, IfOk, IfErr, IfSome, MatchResult};
 ghost use Rattle.orc_values.specs.Cells.{Cell};
 ghost use Rattle.orc_values.specs.Shapes.{width};
@@ -24,14 +24,14 @@ use orc_values::tree_at;
 use orc_wire::{Message, ROW_INDEX, RowIndexMsg, StreamMsg};
 use std::alloc::Global;
 
-/// Whether the stream is the row index of the column.
+/// Returns whether the stream is the row index of the column.
 fn is_index(stream: &StreamMsg, column: usize) -> bool
     ensures { result ≡ is_stream_of column ROW_INDEX stream.now }
 {
     stream.column as usize == column && stream.kind == ROW_INDEX
 }
 
-/// The bytes of a column's row index, where the directory lists one.
+/// Returns the bytes of a column's row index, if the directory lists one.
 fn index_bytes<'a>(column: usize, streams: &[StreamMsg], bytes: &'a [u8]) -> Option<&'a [u8]>
     requires { have_room (length bytes.now) streams.now ≡ true }
     ensures there { IfSome result (λ text. (has_stream column ROW_INDEX streams.now ≡ true)
@@ -50,10 +50,14 @@ fn index_bytes<'a>(column: usize, streams: &[StreamMsg], bytes: &'a [u8]) -> Opt
 }
 
 impl<'a> StripeView<'a> {
-    /// The message of a column's row index (ORC specification, "Row Group Index").
+    /// Reads the message of a column's row index (ORC specification, "Row Group Index").
     ///
-    /// Refusals: `NoIndex`, of the stripe where the stride is 0, even if there is such a stream, and of the column
-    /// where the directory lists none; `Wire`; `OutOfMemory`.
+    /// # Errors
+    ///
+    /// - `NoIndex` of the stripe if the stride is 0, even if the column has a ROW_INDEX stream;
+    /// - `NoIndex` of the column if the directory lists no such stream;
+    /// - `Wire` if the stream's bytes are no valid message;
+    /// - `OutOfMemory` if there is no memory.
     pub fn index(&self, alloc: Global, column: usize) -> Result<RowIndexMsg, StripeFault>
         // A returned message is the one that the bytes of the column's ROW_INDEX stream are; the directory lists this
         // stream, and the stride is above 0.
@@ -82,7 +86,7 @@ impl<'a> StripeView<'a> {
         }
     }
 
-    /// Finds the streams of all columns, and tests that these spell the stripe's rows. None is made.
+    /// Finds the streams of all columns, and tests that they spell the stripe's rows. No row is made.
     fn walk(&self, alloc: Global) -> Result<Located<'a>, StripeFault>
         ensures found { IfOk result (λ located. AreLocated (length self.now.footer.columns)
             self.now.footer.streams located.bytes.now located.slices.items) }
@@ -101,7 +105,7 @@ impl<'a> StripeView<'a> {
         }
     }
 
-    /// What is counted of a column's cells before each group of the rows, which the columns spell.
+    /// Counts a column's cells before each group of the rows that the columns spell.
     fn column_counts(
         &self,
         alloc: Global,
@@ -128,14 +132,18 @@ impl<'a> StripeView<'a> {
         count_column(alloc, tree, 0, column, &self.footer, located, &cells)
     }
 
-    /// For each entry of a column's row index whether its positions are right: whether from there a reader goes on
-    /// with the cells that come behind those of the rows before its group. Any right position counts, and not a
-    /// writer's alone. All columns of the stripe are read for it, one after the other, and no row is held.
+    /// Returns for each entry of a column's row index whether its positions are right: whether a reader goes on from
+    /// them after the column's cells of all rows before the entry's group. All right positions count, not only those
+    /// that a writer would give. The call reads all columns of the stripe, one after the other, and holds no row.
     ///
-    /// The column is one of the schema: a condition.
+    /// `column` must be a column of the schema.
     ///
-    /// Refusals: those of `rows`, which come column by column here; then those of `index`; `BadPosition` of the
-    /// column where there are not as many entries as groups of rows; `OutOfMemory`.
+    /// # Errors
+    ///
+    /// - those of `rows`, here in the order of the columns;
+    /// - then those of `index`;
+    /// - `BadPosition` of the column if the row index doesn't have as many entries as the rows have groups;
+    /// - `OutOfMemory` if there is no memory.
     pub fn positions_right(&self, alloc: Global, column: usize) -> Result<Vec<bool>, StripeFault>
         requires { column < width self.now.schema }
         // If the schema has `column`, then truth values are returned only if the view's bytes are a stripe of some
