@@ -5,24 +5,24 @@ use Rattle.std.specs.Option.{option_to_list}
 use Rattle.orc_values.specs.Cells.{Cell, null, leaf, list, struct, pairs, int, date, text, bytes, list_of_cells, list_of_pairs}
 use Rattle.orc_stats.specs.Statistics.{bool_of}
 
--- a whole number, or a date's day
+-- the integer or the date's day in a cell
 abbrev pub int_in : Cell → Option ℤ
 int_in (leaf (int n)) = Some n
 int_in (leaf (date n)) = Some n
 int_in _ = None
 
--- the byte that stands for a number of 8 bits and a sign
+-- the byte that stores a signed number of 8 bits
 abbrev pub byte_of : ℤ → ℕ
 byte_of (pos n) = if nat_lt n 256 then n else 0
 byte_of (negsuc n) = if nat_lt n 256 then 255 - n else 0
 
--- a text's bytes, or bytes
+-- the bytes of the text or of the byte string in a cell
 abbrev pub bytes_in : Cell → Option (List ℕ)
 bytes_in (leaf (text t)) = Some t
 bytes_in (leaf (bytes t)) = Some t
 bytes_in _ = None
 
--- how many elements, fields or pairs a cell has that is not null
+-- the number of elements, fields or pairs of a cell that is not null
 abbrev pub size_in : Cell → Option ℕ
 size_in null = None
 size_in (leaf a) = Some 0

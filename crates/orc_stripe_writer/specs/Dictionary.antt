@@ -25,6 +25,6 @@ dictionary_entry entries (negsuc i) = None
 abbrev pub AreNamed : List (List ℕ) → List ℤ → List (List ℕ) → Type 0
 AreNamed entries places texts = map (dictionary_entry entries) places ≡ map Some texts
 
--- A dictionary is written where there is a text, and there are at least twice as many texts as entries.
+-- A dictionary is written if there is a text and there are at least twice as many texts as entries.
 abbrev pub is_worth : ℕ → ℕ → Bool
 is_worth entries texts = nat_lt 0 texts && nat_le (2 * entries) texts

@@ -1,5 +1,6 @@
--- What the writer makes of a column's cells (ORC specification, "Column Encodings"). The specification leaves
--- the encoding to the writer. Ours takes a dictionary where it is worth it, and leaves out streams without bytes.
+-- What the writer makes of a column's cells (ORC specification, "Column Encodings"). The specification leaves the
+-- encoding to the writer. This one writes a dictionary if there are at least twice as many texts as distinct ones, and
+-- leaves out streams without bytes.
 use Rattle.std.specs.Prelude.{◌≡◌, ℕ, ℤ, Bool, true, false, List, [], length, map}
 use Rattle.orc_rle.specs.declared.sign.Rle.{Rle}
 use Rattle.orc_rle.specs.declared.sign.Rle.TheVariants.{One, Two}
@@ -19,8 +20,8 @@ use Rattle.orc_column_reader.specs.Stripe.{plain}
 use Rattle.orc_stripe_writer.specs.Dictionary.{AreDistinct, AreNamed, is_worth}
 use Rattle.orc_stripe_writer.specs.WrittenStreams.{AreWrittenInts, AreWrittenMarks}
 
--- a column as it is written: its encoding, and the bytes of PRESENT, DATA, LENGTH and DICTIONARY_DATA; a stream
--- that it hasn't has none
+-- a column as it is written: its encoding, and the bytes of PRESENT, DATA, LENGTH and DICTIONARY_DATA; a stream that
+-- the column doesn't have has no bytes
 pub record Written : Type 0 where
   pub encoding : Encoding
   pub marks : List ℕ
@@ -75,18 +76,18 @@ pub record HasDictionary (rle : Rle) (w : Written) (entries texts : List (List �
   pub dictionary_data_is : w.dictionary_data ≡ concatenated entries
   pub encoded : w.encoding ≡ dictionary rle (length entries)
 
--- strings in a dictionary, or with bytes of their own
+-- strings with a dictionary, or without one
 abbrev pub HasTextsIf : Bool → Rle → Written → List (List ℕ) → List (List ℕ) → Type 0
 HasTextsIf true rle w entries texts = HasDictionary rle w entries texts
 HasTextsIf false rle w entries texts = HasStrings rle w texts
 
--- a dictionary of the distinct texts where it is worth it, else the texts one after the other
+-- a dictionary of the distinct texts if there are at least twice as many texts, else the texts one after the other
 pub record HasTexts (rle : Rle) (w : Written) (texts : List (List ℕ)) : Type 0 where
   pub entries : List (List ℕ)
   pub distinct : AreDistinct texts entries
   pub written : HasTextsIf (is_worth (length entries) (length texts)) rle w entries texts
 
--- LENGTH has sizes
+-- LENGTH has the sizes, and there is no other stream beside PRESENT
 pub record HasSizes (rle : Rle) (w : Written) (sizes : List ℤ) : Type 0 where
   pub lengths_are : AreWrittenInts rle Unsigned sizes w.lengths
   pub others : w
@@ -96,7 +97,7 @@ pub record HasSizes (rle : Rle) (w : Written) (sizes : List ℤ) : Type 0 where
 abbrev pub HasNothing : Written → Type 0
 HasNothing w = w ≡ record { encoding = plain; marks = w.marks; content = []; lengths = []; dictionary_data = [] }
 
--- the streams of a column of single values
+-- the streams beside PRESENT are those of the values of a column without children
 abbrev pub WritesScalar : Rle → Written → Scalar → List Cell → Type 0
 WritesScalar rle w kind.Boolean vs = Standing IsBool (WritesBooleans w) vs
 WritesScalar rle w kind.Byte vs = Standing IsByte (HasBytes w) vs

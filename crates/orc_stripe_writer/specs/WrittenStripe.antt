@@ -1,4 +1,4 @@
--- What the writer makes of rows: the indexes column by column, the streams column by column, then the footer
+-- What the writer makes of rows: the row indexes column by column, then the streams column by column, then the footer
 -- (ORC specification, "Stripes"). The specification leaves the order of the streams to the writer.
 use Rattle.std.specs.Prelude.{◌≡◌, ℕ, zero, suc, ◌<◌, Some, List, [], ◌∷◌, ◌++◌, map, length, slice_get}
 use Rattle.std.specs.List.{flat_map}
@@ -25,7 +25,7 @@ use Rattle.orc_stats.specs.ColumnStatistics.{column_stat}
 abbrev pub AreFew : Shape → List Cell → Type 0
 AreFew s rows = (c : ℕ) → c < width s → length (cells s c rows) < cell_limit
 
--- a stream's line in the directory, where it has bytes
+-- a stream's line in the directory, which it has if it has bytes
 abbrev pub line : ℕ → ℕ → List ℕ → List StreamMsg
 line c k [] = []
 line c k (b ∷ bs) = record { kind = k; column = c; length = length (b ∷ bs) } ∷ []
@@ -40,12 +40,12 @@ column_lines c w =
     line c PRESENT w.marks
     ++ (line c DATA w.content ++ (line c LENGTH w.lengths ++ line c DICTIONARY_DATA w.dictionary_data))
 
--- of the columns from number c on
+-- the lines of the directory for the columns from number c on
 abbrev pub lines_from : ℕ → List Written → List StreamMsg
 lines_from c [] = []
 lines_from c (w ∷ ws) = column_lines c w ++ lines_from (suc c) ws
 
--- each column from this one on is written of its cells
+-- each column from number c on is what the writer makes of its cells
 abbrev pub AreWrittenColumns : Rle → Shape → List Cell → ℕ → List Written → Type 0
 AreWrittenColumns rle s rows c [] = Unit {0}
 AreWrittenColumns rle s rows c (w ∷ ws) =
@@ -61,13 +61,13 @@ pub record HasColumns (rle : Rle) (s : Shape) (rows : List Cell) (n : ℕ) (stre
   pub listed : directory ≡ lines_from 0 columns
   pub encoded : encodings ≡ map (λ (w : Written). w.encoding) columns
 
--- without a stride no column has an index
+-- how many columns have a row index: none if the stride is 0
 abbrev pub indexed_columns : ℕ → ℕ → ℕ
 indexed_columns zero columns = 0
 indexed_columns (suc k) columns = columns
 
--- The bytes are the indexes of all columns, where there is a stride, then the streams of all columns of the
--- rows, and the canonical text of their footer. The stripe stands for itself, at offset 0.
+-- The bytes are the row indexes of all columns if the stride is above 0, then the streams of all columns of the rows,
+-- and last the canonical text of the footer. The stripe isn't placed in a file yet: its offset is 0.
 pub record IsWrittenStripe (rle : Rle) (stride : ℕ) (s : Shape) (rows : List Cell) (info : StripeInfo)
     (bytes : List ℕ) : Type 0 where
   pub indexes : List (List ℕ)

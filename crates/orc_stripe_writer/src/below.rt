@@ -1,4 +1,4 @@
-//! The cells of the columns right below a column (ORC specification, "Column Encodings").
+//! The cells of a column's child columns (ORC specification, "Column Encodings").
 ghost use Rattle.std.specs.Prelude.{◌≡◌, ◌++◌, IfOk, OnOk, map, take, drop, option_map, slice_get};
 ghost use Rattle.std.specs.List.{flat_map};
 ghost use Rattle.orc_values.specs.Cells.{parts, keys_in, values_in};
@@ -18,7 +18,7 @@ fn lend_all<'r, 'a>(found: &mut Vec<Lent<'r, 'a>>, rows: &'r [Row<'a>]) -> Resul
     Ok(())
 }
 
-/// The rows, in a slice of cells.
+/// Returns the rows as a list of cells.
 pub(crate) fn lent_rows<'r, 'a>(
     alloc: Global,
     rows: &'r [Row<'a>],
@@ -30,7 +30,7 @@ pub(crate) fn lent_rows<'r, 'a>(
     Ok(found)
 }
 
-/// The elements of the lists that are not null, joined in order.
+/// Returns the elements of the lists that are not null, joined in order.
 pub(crate) fn elements_of<'r, 'a>(
     alloc: Global,
     lists: &[Lent<'r, 'a>],
@@ -44,14 +44,14 @@ pub(crate) fn elements_of<'r, 'a>(
     Ok(found)
 }
 
-/// The field at a place of a struct, and none of null.
+/// Returns the field at a place of a struct; `None` if the cell is null.
 fn field_at<'r, 'a>(row: &'r Row<'a>, place: usize) -> Option<&'r Row<'a>>
     ensures { option_map (λ r. view r.now) result ≡ slice_get (parts (view row.now)) place }
 {
     parts_of(row).get(place)
 }
 
-/// Adds the field at a place of a struct, if it isn't null.
+/// Adds the field at a place of a struct, if the struct isn't null.
 fn lend_field<'r, 'a>(
     found: &mut Vec<Lent<'r, 'a>>,
     row: &'r Row<'a>,
@@ -67,7 +67,7 @@ fn lend_field<'r, 'a>(
     Ok(())
 }
 
-/// The field at a place of each struct that is not null, in order.
+/// Returns the field at a place of each struct that is not null, in order.
 pub(crate) fn fields_of<'r, 'a>(
     alloc: Global,
     structs: &[Lent<'r, 'a>],
@@ -111,7 +111,7 @@ fn lend_values<'r, 'a>(
     Ok(())
 }
 
-/// The keys of the maps that are not null, joined in order.
+/// Returns the keys of the maps that are not null, joined in order.
 pub(crate) fn keys_of<'r, 'a>(
     alloc: Global,
     maps: &[Lent<'r, 'a>],
@@ -125,7 +125,7 @@ pub(crate) fn keys_of<'r, 'a>(
     Ok(found)
 }
 
-/// The values of the maps that are not null, joined in order.
+/// Returns the values of the maps that are not null, joined in order.
 pub(crate) fn map_values_of<'r, 'a>(
     alloc: Global,
     maps: &[Lent<'r, 'a>],

@@ -1,4 +1,4 @@
-//! The streams of a stripe as they are written, one behind the other, and the directory that lists them.
+//! The streams of a stripe as they are written, one after the other, and the directory that lists them.
 ghost use Rattle.std.specs.Prelude.{◌≡◌, [], ◌++◌, ◌≤◌, length, drop, OnOk};
 ghost use Rattle.orc_rle.specs.Values.{AllInRange};
 ghost use Rattle.orc_rle.specs.Cut.{IsWritten};
@@ -51,7 +51,7 @@ fn append_bytes(bytes: &[u8], out: &mut Vec<u8>) -> Result<(), AllocError>
     }
 }
 
-/// The streams of a stripe as far as they are written, and their directory.
+/// The streams of a stripe that are written so far, and their directory.
 #[derive(Drop)]
 pub(crate) struct Body {
     pub(crate) bytes: Vec<u8>,
@@ -59,7 +59,7 @@ pub(crate) struct Body {
 }
 
 impl Body {
-    /// No streams.
+    /// Makes a body without streams.
     pub(crate) fn new(alloc: Global) -> Body
         ensures bytes { result.bytes.items ≡ [] }
         ensures directory { result.directory.items ≡ [] }
@@ -70,7 +70,7 @@ impl Body {
         }
     }
 
-    /// Lists the bytes from `start` on as a stream, where there are any.
+    /// Lists the bytes from `start` on as a stream, if there are any.
     fn list(&mut self, column: u32, kind: u32, start: usize) -> Result<(), AllocError>
         requires { start ≤ length self.old.bytes.items }
         ensures bytes { OnOk result (self.new.bytes.items ≡ self.old.bytes.items) }

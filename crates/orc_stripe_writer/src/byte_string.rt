@@ -1,11 +1,11 @@
-//! The bytes of texts and of byte strings, as they are compared and told apart.
+//! The bytes of texts and of byte strings, as they are ordered and hashed.
 ghost use Rattle.std.specs.Prelude.{◌∷◌, []};
 ghost use Rattle.std.specs.Cmp.Rules.{hashing};
 ghost use Rattle.std.proofs.Common.{rules};
 
 use std::hash::{Hash, Hasher};
 
-/// The bytes of a text, or of a byte string, that are lent: one element of a slice. They compare in the order of unsigned bytes.
+/// The borrowed bytes of a text or of a byte string. They compare in the order of unsigned bytes.
 #[derive(Clone, Copy, PartialEq, Eq, PartialOrd, Ord)]
 pub(crate) struct ByteString<'r>(pub(crate) &'r [u8]);
 

@@ -16,7 +16,7 @@ use crate::byte_string::ByteString;
 use orc_values::Own;
 use std::alloc::{AllocError, Global};
 
-/// Whether no cell is null.
+/// Returns whether no cell is null.
 pub(crate) fn are_all_values(owns: &[Own<'_>]) -> bool
     ensures { result ≡ list_all (λ m. m) (map is_value (own_cells owns.now)) }
 {
@@ -28,7 +28,7 @@ pub(crate) fn are_all_values(owns: &[Own<'_>]) -> bool
     true
 }
 
-/// Which cells are not null.
+/// Returns for each cell whether it isn't null.
 pub(crate) fn marks_in(alloc: Global, owns: &[Own<'_>]) -> Result<Vec<bool>, AllocError>
     ensures { IfOk result (λ marks. marks.items ≡ map is_value (own_cells owns.now)) }
 {
@@ -39,7 +39,7 @@ pub(crate) fn marks_in(alloc: Global, owns: &[Own<'_>]) -> Result<Vec<bool>, All
     Ok(marks)
 }
 
-/// The truth value in a cell.
+/// Returns the truth value in a cell.
 fn bool_of(own: Own<'_>) -> Option<bool>
     ensures { result ≡ stats.bool_of (own_cell own.entry) }
 {
@@ -49,7 +49,7 @@ fn bool_of(own: Own<'_>) -> Option<bool>
     }
 }
 
-/// The truth values among the cells.
+/// Returns the truth values among the cells.
 pub(crate) fn bools_of(alloc: Global, owns: &[Own<'_>]) -> Result<Vec<bool>, AllocError>
     ensures { IfOk result (λ bools. bools.items ≡ bools_in (own_cells owns.now)) }
 {
@@ -62,7 +62,7 @@ pub(crate) fn bools_of(alloc: Global, owns: &[Own<'_>]) -> Result<Vec<bool>, All
     Ok(bools)
 }
 
-/// The whole number, or the date's day, in a cell.
+/// Returns the integer or the date's day in a cell.
 fn int_of(own: Own<'_>) -> Option<i64>
     ensures { result ≡ int_in (own_cell own.entry) }
 {
@@ -73,7 +73,7 @@ fn int_of(own: Own<'_>) -> Option<i64>
     }
 }
 
-/// The whole numbers, or the days of dates, among the cells.
+/// Returns the integers, or the days of dates, among the cells.
 pub(crate) fn ints_of(alloc: Global, owns: &[Own<'_>]) -> Result<Vec<i64>, AllocError>
     ensures ints { IfOk result (λ ints. ints.items ≡ ints_in (own_cells owns.now)) }
     ensures in_range { IfOk result (λ ints. AllInRange Signed ints.items) }
@@ -87,7 +87,7 @@ pub(crate) fn ints_of(alloc: Global, owns: &[Own<'_>]) -> Result<Vec<i64>, Alloc
     Ok(ints)
 }
 
-/// The byte that stands for a number of 8 bits and a sign; 0 for others.
+/// Returns the byte that stores a signed number of 8 bits; 0 if the number doesn't fit.
 fn byte_of(number: i64) -> u8
     ensures { result ≡ spec.byte_of number }
 {
@@ -95,7 +95,7 @@ fn byte_of(number: i64) -> u8
     u8::try_from(shifted).unwrap_or(0)
 }
 
-/// The bytes that stand for the whole numbers among the cells.
+/// Returns the bytes that store the integers among the cells.
 pub(crate) fn number_bytes_of(alloc: Global, owns: &[Own<'_>]) -> Result<Vec<u8>, AllocError>
     ensures { IfOk result (λ bytes. bytes.items ≡ number_bytes_in (own_cells owns.now)) }
 {
@@ -108,7 +108,7 @@ pub(crate) fn number_bytes_of(alloc: Global, owns: &[Own<'_>]) -> Result<Vec<u8>
     Ok(bytes)
 }
 
-/// The bytes of the text, or the bytes, in a cell.
+/// Returns the bytes of the text or of the byte string in a cell.
 fn bytes_of<'r>(own: Own<'r>) -> Option<&'r [u8]>
     ensures { option_map (λ b. b.now) result ≡ bytes_in (own_cell own.entry) }
 {
@@ -119,7 +119,7 @@ fn bytes_of<'r>(own: Own<'r>) -> Option<&'r [u8]>
     }
 }
 
-/// The texts, or the byte strings, among the cells.
+/// Returns the texts, or the byte strings, among the cells.
 pub(crate) fn byte_strings_of<'r>(
     alloc: Global,
     owns: &[Own<'r>],
@@ -135,7 +135,7 @@ pub(crate) fn byte_strings_of<'r>(
     Ok(strings)
 }
 
-/// A length, or a place, as a number of a stream. None is above 2^63 - 1, so the refusal never comes.
+/// Returns a length, or a place, as a number of a stream. None is above 2^63 - 1, so the call never fails.
 pub(crate) fn number_of(length: usize) -> Result<i64, AllocError>
     ensures number { IfOk result (λ number. number ≡ pos length) }
     ensures in_range { IfOk result (λ number. InRange Unsigned number) }
@@ -146,7 +146,7 @@ pub(crate) fn number_of(length: usize) -> Result<i64, AllocError>
     }
 }
 
-/// How many bytes each string has.
+/// Returns the length of each string in bytes.
 pub(crate) fn byte_string_lengths(
     alloc: Global,
     strings: &[ByteString<'_>],
@@ -175,7 +175,7 @@ pub(crate) fn append_byte_strings(
     Ok(())
 }
 
-/// How many elements a list has, or pairs a map.
+/// Returns the number of elements of a list or of pairs of a map; `None` if the cell is null.
 fn size_of(own: Own<'_>) -> Option<usize>
     ensures { result ≡ size_in (own_cell own.entry) }
 {
@@ -187,7 +187,7 @@ fn size_of(own: Own<'_>) -> Option<usize>
     }
 }
 
-/// How many elements each list has, or pairs each map, that is not null.
+/// Returns the number of elements of each list, or of pairs of each map, that is not null.
 pub(crate) fn sizes_of(alloc: Global, owns: &[Own<'_>]) -> Result<Vec<i64>, AllocError>
     ensures sizes { IfOk result (λ found. found.items ≡ sizes_in (own_cells owns.now)) }
     ensures in_range { IfOk result (λ found. AllInRange Unsigned found.items) }

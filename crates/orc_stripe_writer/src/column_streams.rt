@@ -1,4 +1,4 @@
-//! A column's streams, as they were just written.
+//! Finds a column's streams in the bytes that were just written.
 ghost use Rattle.std.specs.Prelude.{◌≡◌, length, true};
 ghost use Rattle.orc_directory.specs.Directory.{is_stream_of, have_room, slice};
 ghost use Rattle.orc_column_reader.specs.Starting.{AreStreams};
@@ -9,14 +9,14 @@ ghost use Rattle.orc_stripe_writer.specs.WrittenStripe.{column_bytes, column_lin
 use orc_column_reader::{ColumnStreams, version_of};
 use orc_wire::{DATA, DICTIONARY_DATA, Encoding, LENGTH, PRESENT, StreamMsg};
 
-/// Whether the line is that of a column's stream of a kind.
+/// Returns whether the line lists a column's stream of a kind.
 fn names(line: &StreamMsg, column: u32, kind: u32) -> bool
     ensures { result ≡ is_stream_of column kind line.now }
 {
     line.column == column && line.kind == kind
 }
 
-/// The bytes of a column's stream of a kind, none where it isn't listed.
+/// Returns the bytes of a column's stream of a kind; no bytes if it isn't listed.
 fn stream_bytes<'a>(lines: &[StreamMsg], bytes: &'a [u8], column: u32, kind: u32) -> &'a [u8]
     requires { have_room (length bytes.now) lines.now ≡ true }
     ensures { result.now ≡ slice column kind lines.now bytes.now }
@@ -32,7 +32,7 @@ fn stream_bytes<'a>(lines: &[StreamMsg], bytes: &'a [u8], column: u32, kind: u32
     bytes.split_at(0).0
 }
 
-/// The streams of a column, from its bytes and the lines that list them.
+/// Returns the streams of a column, from its bytes and the lines that list them.
 pub(crate) fn column_streams<'a>(
     column: u32,
     encoding: Encoding,

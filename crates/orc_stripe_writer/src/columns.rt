@@ -1,5 +1,4 @@
-//! The columns of rows as they are written: each before those below it, its streams, its encoding, its statistic and
-//! its index.
+//! Writes the columns of rows, each before the columns below it: its streams, encoding, statistic and row index.
 ghost use Rattle.std.specs.Prelude.{◌≡◌, ◌+◌, ◌<◌, ℕ, List, length, IfOk, OnOk};
 ghost use Rattle.orc_values.specs.Shapes.{Shape, width, widths, shape_at};
 ghost use Rattle.orc_values.specs.Cells.{Cell};
@@ -36,7 +35,7 @@ use orc_values::{Field, Own, Tree, width_of};
 use orc_wire::Encoding;
 use std::alloc::{AllocError, Global};
 
-/// What is written so far of a stripe's columns: their streams, and apart from these their indexes.
+/// The columns of a stripe that are written so far: their streams, and apart from these their row indexes.
 #[derive(Drop)]
 pub(crate) struct Columns {
     pub(crate) body: Body,
@@ -45,7 +44,7 @@ pub(crate) struct Columns {
     pub(crate) stats: Vec<Stat>,
 }
 
-/// The statistic of a column's cells, and where there is a stride the column's index is added.
+/// Returns the statistic of a column's cells, and adds the column's row index if the stride is above 0.
 fn put_told(
     alloc: Global,
     stride: u32,
@@ -64,14 +63,14 @@ fn put_told(
         → IfOk result (λ found. found ≡ stat (kind_of (shape tree.now)) cells) }
 {
     if stride == 0 {
-        // an index of no groups has no bytes: what is left is the statistic
+        // an index of no groups has no bytes, so only the statistic is left
         return put_index(alloc, tree, streams, owns, &[], &mut Vec::new(alloc));
     }
     put_column_index(alloc, tree, streams, owns, bounds, indexes)
 }
 
-/// Adds the next column, of which the cells are given as it says them itself. A bound says how many of them come before a
-/// group.
+/// Adds the next column. `owns` are its cells without their children; each of the `bounds` is the number of cells
+/// before a group.
 fn put_column(
     alloc: Global,
     options: &Options,
@@ -115,7 +114,7 @@ fn put_column(
     Ok(())
 }
 
-/// The rows of a stripe as columns, and how they are written.
+/// The rows of a stripe as columns, and the options for writing them.
 #[derive(Clone, Copy)]
 pub(crate) struct Source<'a> {
     pub(crate) alloc: Global,
@@ -124,7 +123,7 @@ pub(crate) struct Source<'a> {
     pub(crate) batch: &'a RowBatch,
 }
 
-/// Adds a column, and all that are below it. A bound says how many of its cells come before a group.
+/// Adds a column and all columns below it. Each of the `bounds` is the number of the column's cells before a group.
 #[cycle(columns)]
 pub(crate) fn put_columns(
     source: Source<'_>,
@@ -164,8 +163,8 @@ pub(crate) fn put_columns(
     }
 }
 
-/// Adds the columns of the fields of a column of structs, and all that are below them. A bound says how many of the structs
-/// that are not null come before a group.
+/// Adds the columns of the fields of the column `structs`, and all columns below them. Each of the `bounds` is the
+/// number of structs before a group that aren't null.
 #[cycle(columns)]
 fn put_fields(
     source: Source<'_>,

@@ -1,4 +1,4 @@
-//! The dictionary of a column of texts, as it is written.
+//! Makes the dictionary of a column of texts.
 ghost use Rattle.std.specs.Prelude.{◌≡◌, length, IfOk};
 ghost use Rattle.std.specs.HashMap.{get};
 ghost use Rattle.std.specs.Option.{MatchOption};
@@ -15,15 +15,15 @@ use std::alloc::{AllocError, Global};
 use std::collections::{HashMap, HashSet};
 use std::hash::Hash;
 
-/// The texts of a column, each once, and for each text its place among them.
+/// The distinct texts of a column, and for each text of the column its place among them.
 #[derive(Drop)]
 pub(crate) struct Dictionary<'r> {
-    /// In the order of unsigned bytes.
+    /// The distinct texts, in the order of unsigned bytes.
     pub(crate) entries: Vec<ByteString<'r>>,
     pub(crate) places: Vec<i64>,
 }
 
-/// Whether texts are written by a dictionary: there is one, and there are at least twice as many as
+/// Returns whether texts get a dictionary: whether there is a text, and there are at least twice as many texts as
 /// distinct ones.
 fn is_worth(entries: usize, texts: usize) -> bool
     ensures { result ≡ spec.is_worth entries texts }
@@ -31,7 +31,8 @@ fn is_worth(entries: usize, texts: usize) -> bool
     0 < texts && entries <= texts / 2
 }
 
-/// The items, each once, as they come; nothing where more come once they are too many for a dictionary.
+/// Returns the distinct items, in the order in which they first come. Stops with `None` at an item before which there
+/// are too many distinct ones for a dictionary.
 fn each_once<K: Eq + Hash + Copy>(alloc: Global, items: &[K]) -> Result<Option<Vec<K>>, AllocError>
     ensures { IfOk result (λ found. MatchOption found
         (HasTooMany K.eq items.now) (λ few. AreEachOnce K.eq items.now few.items)) }
@@ -49,7 +50,7 @@ fn each_once<K: Eq + Hash + Copy>(alloc: Global, items: &[K]) -> Result<Option<V
     Ok(Some(few))
 }
 
-/// Keeps each text once, in the order of unsigned bytes. It takes no memory.
+/// Returns the distinct texts, in the order of unsigned bytes. Allocates nothing.
 fn distinct<'r>(mut texts: Vec<ByteString<'r>>) -> Vec<ByteString<'r>>
     ensures { AreDistinct (byte_strings texts.entry.items) (byte_strings result.items) }
 {
@@ -58,7 +59,7 @@ fn distinct<'r>(mut texts: Vec<ByteString<'r>>) -> Vec<ByteString<'r>>
     texts
 }
 
-/// The place of each entry.
+/// Returns the place of each entry.
 fn entry_places<'r>(
     alloc: Global,
     entries: &Vec<ByteString<'r>>,
@@ -72,7 +73,7 @@ fn entry_places<'r>(
     Ok(places)
 }
 
-/// For each text its place among the entries.
+/// Returns for each text its place among the entries.
 fn places_of<'r>(
     alloc: Global,
     entries: &Vec<ByteString<'r>>,
@@ -94,8 +95,8 @@ fn places_of<'r>(
     Ok(places)
 }
 
-/// The texts, each once, in the order of unsigned bytes; nothing where a dictionary of them isn't worth it.
-/// Only distinct texts are sorted, of which there are one more than half of all at most.
+/// Returns the distinct texts, in the order of unsigned bytes; `None` if the texts get no dictionary. Only distinct
+/// texts are sorted, at most one more than half of the texts.
 pub(crate) fn entries_of<'r>(
     alloc: Global,
     strings: &[ByteString<'r>],
@@ -114,7 +115,7 @@ pub(crate) fn entries_of<'r>(
     }
 }
 
-/// The entries, and the place of each text among them.
+/// Makes a dictionary of the entries, with the place of each text among them.
 pub(crate) fn dictionary_of<'r>(
     alloc: Global,
     entries: Vec<ByteString<'r>>,

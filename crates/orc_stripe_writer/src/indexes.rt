@@ -1,4 +1,4 @@
-//! The groups of rows that indexes tell of, and a column's index among those of a stripe.
+//! The row groups of a stripe, and how a column's row index is added to those of the stripe.
 ghost use Rattle.std.specs.Prelude.{◌≡◌, ◌<◌, List, length, IfOk, OnOk};
 ghost use Rattle.orc_values.specs.Cells.{Cell};
 ghost use Rattle.orc_values.specs.Views.{shape};
@@ -22,7 +22,7 @@ use orc_values::{Own, Tree};
 use orc_wire::{ROW_INDEX, StreamMsg};
 use std::alloc::{AllocError, Global};
 
-/// How many rows come before each group that the stripe's indexes tell of; without a stride there is none.
+/// Returns how many rows come before each group of the stripe. There is no group if the stride is 0.
 pub(crate) fn first_rows(
     alloc: Global,
     stride: usize,
@@ -36,7 +36,7 @@ pub(crate) fn first_rows(
     group_starts(alloc, stride, rows)
 }
 
-/// Adds the index of the next column, and its line in the directory. Answers the statistic of the column's cells.
+/// Adds the row index of the next column, and its line in the directory. Returns the statistic of the column's cells.
 pub(crate) fn put_column_index(
     alloc: Global,
     tree: &Tree,

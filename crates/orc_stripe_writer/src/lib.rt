@@ -1,4 +1,4 @@
-//! Rows to the bytes of a stripe.
+//! Writes stripes: from rows to the bytes of a stripe.
 #![tactic(auto)]
 
 mod below;

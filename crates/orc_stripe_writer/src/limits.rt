@@ -1,4 +1,4 @@
-//! Whether rows are few enough for one stripe: each column has a greatest number of cells.
+//! Whether rows are few enough for one stripe: a column has a greatest number of cells.
 ghost use Rattle.std.specs.Prelude.{IfOk, IfErr, ◌≡◌, map};
 ghost use Rattle.std.specs.Bool.{OnTrue, OnFalse};
 ghost use Rattle.orc_values.specs.Cells.{parts, values};
@@ -14,7 +14,7 @@ use orc_types::Schema;
 use orc_values::{CELL_LIMIT, Field, Lent, Row, Tree};
 use std::alloc::{AllocError, Global};
 
-/// Whether neither the column nor one below it has more than 2,147,483,647 cells.
+/// Returns whether neither the column nor any column below it has more than 2,147,483,647 cells.
 #[cycle(limits)]
 fn columns_are_few(alloc: Global, tree: &Tree, cells: &[Lent<'_, '_>]) -> Result<bool, AllocError>
     ensures yes { IfOk result (λ few. OnTrue few (AreFew (shape tree.now) (lent_cells cells.now))) }
@@ -34,7 +34,7 @@ fn columns_are_few(alloc: Global, tree: &Tree, cells: &[Lent<'_, '_>]) -> Result
     }
 }
 
-/// The same of the columns of the maps' keys and of their values.
+/// Returns whether no column of the maps' keys or values has more than 2,147,483,647 cells.
 #[cycle(limits)]
 fn pairs_are_few(
     alloc: Global,
@@ -55,7 +55,7 @@ fn pairs_are_few(
     columns_are_few(alloc, value, &map_values)
 }
 
-/// The same of the columns of the structs' fields.
+/// Returns whether no column of the structs' fields has more than 2,147,483,647 cells.
 #[cycle(limits)]
 fn fields_are_few(
     alloc: Global,
@@ -76,14 +76,17 @@ fn fields_are_few(
     Ok(true)
 }
 
-/// Whether the rows are few enough for one stripe: no column has more than 2,147,483,647 cells.
+/// Returns whether the rows are few enough for one stripe: whether no column has more than 2,147,483,647 cells.
 ///
-/// Refusal: `OutOfMemory`.
+/// # Errors
+///
+/// `OutOfMemory` if there is no memory.
 pub fn are_few(alloc: Global, schema: &Schema, rows: &[Row<'_>]) -> Result<bool, StripeFault>
-    // What is answered is exactly whether no column has more than 2,147,483,647 cells of the rows.
+    // If the call succeeds, then the answer is true if no column of `schema` has more than 2,147,483,647 cells in
+    // `rows`, and false otherwise.
     ensures yes { IfOk result (λ few. OnTrue few (AreFew schema.now (views rows.now))) }
     ensures no { IfOk result (λ few. OnFalse few (AreFew schema.now (views rows.now) → ⊥)) }
-    // Want of memory is the only refusal.
+    // An error is `OutOfMemory`.
     ensures refused { IfErr result (λ fault. fault ≡ OutOfMemory) }
 {
     let cells = lent_rows(alloc, rows)?;

@@ -1,4 +1,4 @@
-//! One column, as it is written.
+//! Writes the streams of one column.
 ghost use Rattle.std.specs.Prelude.{◌≡◌, map, IfOk, OnOk, ℕ, List};
 ghost use Rattle.orc_rle.specs.declared.sign.Sign.TheVariants.{Unsigned};
 ghost use Rattle.orc_rle.specs.Values.{AllInRange};
@@ -30,7 +30,7 @@ use orc_wire::{
 };
 use std::alloc::{AllocError, Global};
 
-/// DIRECT or DIRECT_V2.
+/// Returns the encoding DIRECT or DIRECT_V2.
 fn direct(rle: Rle) -> Encoding
     ensures { result ≡ spec.direct rle }
 {
@@ -46,7 +46,7 @@ fn direct(rle: Rle) -> Encoding
     }
 }
 
-/// DICTIONARY or DICTIONARY_V2.
+/// Returns the encoding DICTIONARY or DICTIONARY_V2.
 fn dictionary(rle: Rle, entries: u32) -> Encoding
     ensures { result ≡ spec.dictionary rle entries }
 {
@@ -62,7 +62,7 @@ fn dictionary(rle: Rle, entries: u32) -> Encoding
     }
 }
 
-/// DIRECT, in either version.
+/// Returns the encoding DIRECT, which a column without integers has in either version.
 fn plain() -> Encoding
     ensures { result ≡ plain_encoding }
 {
@@ -72,7 +72,7 @@ fn plain() -> Encoding
     }
 }
 
-/// Adds PRESENT, where a cell is null.
+/// Adds PRESENT, if a cell is null.
 fn put_marks(
     alloc: Global,
     column: u32,
@@ -89,7 +89,7 @@ fn put_marks(
     body.put_bits(column, PRESENT, &marks)
 }
 
-/// Adds the DATA of booleans.
+/// Adds DATA with booleans.
 fn put_bools(
     alloc: Global,
     column: u32,
@@ -103,7 +103,7 @@ fn put_bools(
     Ok(plain())
 }
 
-/// Adds the DATA of numbers of 8 bits.
+/// Adds DATA with numbers of 8 bits.
 fn put_bytes(
     alloc: Global,
     column: u32,
@@ -118,7 +118,7 @@ fn put_bytes(
     Ok(plain())
 }
 
-/// Adds the DATA of other numbers, or of dates.
+/// Adds DATA with numbers of more bits, or with dates.
 fn put_numbers(
     alloc: Global,
     rle: Rle,
@@ -134,7 +134,7 @@ fn put_numbers(
     Ok(direct(rle))
 }
 
-/// Adds the strings, and their lengths.
+/// Adds DATA with the strings, and LENGTH with their lengths.
 fn put_strings(
     alloc: Global,
     rle: Rle,
@@ -150,7 +150,7 @@ fn put_strings(
     Ok(direct(rle))
 }
 
-/// Adds the places of texts in their dictionary, and the dictionary.
+/// Adds DATA with the places of the texts in their dictionary, then LENGTH and DICTIONARY_DATA with the dictionary.
 fn put_dictionary(
     alloc: Global,
     rle: Rle,
@@ -174,7 +174,7 @@ fn put_dictionary(
     Ok(dictionary(rle, entries))
 }
 
-/// Adds texts, by a dictionary where it is worth it.
+/// Adds texts, with a dictionary if there are at least twice as many texts as distinct ones.
 fn put_texts(
     alloc: Global,
     rle: Rle,
@@ -193,7 +193,7 @@ fn put_texts(
     }
 }
 
-/// Adds the lengths of lists, or how many pairs maps have.
+/// Adds LENGTH with the sizes of lists or maps.
 fn put_sizes(
     alloc: Global,
     rle: Rle,
@@ -209,7 +209,7 @@ fn put_sizes(
     Ok(direct(rle))
 }
 
-/// Adds the streams of values of a kind that contains no other.
+/// Adds the streams of the values of a column that has no children.
 fn put_scalars(
     alloc: Global,
     rle: Rle,
@@ -261,8 +261,8 @@ fn put_values(
     }
 }
 
-/// Adds the streams of a column: PRESENT where a cell is null, then those of its values. Answers the
-/// column's encoding.
+/// Adds the streams of a column: PRESENT if a cell is null, then the streams of its values. Returns the column's
+/// encoding.
 pub(crate) fn put_cells(
     alloc: Global,
     rle: Rle,

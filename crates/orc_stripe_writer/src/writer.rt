@@ -1,4 +1,4 @@
-//! Rows to the bytes of a stripe.
+//! From rows to the bytes of a stripe.
 ghost use Rattle.std.specs.Prelude.{◌≡◌, ℕ, List, length, IfOk, IfErr};
 ghost use Rattle.orc_rle.specs.declared.sign.Rle.{Rle};
 ghost use Rattle.orc_values.specs.Shapes.{Shape, width};
@@ -24,18 +24,18 @@ use orc_values::Row;
 use orc_wire::{Items, Message, StripeFooter, StripeInfo, whole_laws};
 use std::alloc::{AllocError, Global};
 
-/// A stripe as it is written.
+/// A written stripe.
 #[derive(Drop)]
 pub struct StripeOut {
-    /// Its indexes, its data streams and its footer.
+    /// The stripe's row indexes, data streams and footer.
     pub bytes: Vec<u8>,
-    /// The lengths of its parts and its number of rows. Its offset is 0.
+    /// The lengths of these parts and the number of rows. The offset is 0.
     pub info: StripeInfo,
-    /// For each column, in the order of the schema's types, the statistic of its cells.
+    /// The statistic of each column's cells, in the order of the schema's types.
     pub stats: Vec<Stat>,
 }
 
-/// The streams of all columns, their directory, their encodings, their statistics and their indexes.
+/// Writes the streams of all columns, with their directory, encodings, statistics and row indexes.
 fn all_columns(
     alloc: Global,
     options: &Options,
@@ -64,7 +64,7 @@ fn all_columns(
     Ok(out)
 }
 
-/// Puts the streams behind the indexes, and the footer behind both.
+/// Joins a stripe: the row indexes, then the streams, then the footer.
 fn assemble(
     indexes: Body,
     streams: Vec<u8>,
@@ -79,7 +79,7 @@ fn assemble(
         → IsWrittenStripe rle stride s rows out.info out.bytes.items) }
     ensures stats { IfOk result (λ out. out.stats.items ≡ stats.items) }
 {
-    // for its contract alone: a directory reads back from its text where each of its encodings does
+    // for its contract alone: a directory reads back from its text if each of its encodings does
     whole_laws();
     let mut bytes = indexes.bytes;
     let mut lines = indexes.directory;
@@ -105,10 +105,12 @@ fn assemble(
     Ok(StripeOut { bytes, info, stats })
 }
 
-/// The stripe of the rows of a batch, as `write_stripe` makes it of rows. The batch has to hold rows of the schema, and no
-/// column may have more than 2,147,483,647 cells.
+/// Writes a stripe of the rows of a batch, as `write_stripe` does of rows. The batch must hold rows of the schema, and
+/// no column may have more than 2,147,483,647 cells.
 ///
-/// Refusal: `OutOfMemory`.
+/// # Errors
+///
+/// `OutOfMemory` if there is no memory.
 pub fn write_batch(
     alloc: Global,
     schema: &Schema,
@@ -117,18 +119,24 @@ pub fn write_batch(
 ) -> Result<StripeOut, StripeFault>
     requires held { Holds schema.now (kept_rows schema.now batch.now) batch.now }
     requires few { AreFew schema.now (kept_rows schema.now batch.now) }
-    // Where the batch holds rows, few enough for one stripe, what is written is a stripe of them,
-    // so that it is opened, and its rows are read as them.
+    // If the batch holds rows of `schema`, no column of them has more than 2,147,483,647 cells and the call succeeds,
+    // then the written bytes are, with the returned `info`, a stripe of exactly these rows.
     ensures stripe { IfOk result (λ out. IsStripe schema.now out.info out.bytes.items (kept_rows schema.now batch.now)) }
-    // It is laid out by the writer's rules, at offset 0: the order of indexes, streams and columns,
-    // what is left out, encodings, dictionaries, runs, and with a stride the row indexes.
+    // If the batch holds rows of `schema`, no column of them has more than 2,147,483,647 cells and the call succeeds,
+    // then the written bytes and the returned `info` are what the writer's rules make of the rows, with the version of
+    // integer runs and the stride of `options`. The rules fix the order of row indexes, streams and columns, the
+    // streams that are left out, encodings, dictionaries and runs, the row indexes if the stride is above 0, and the
+    // offset 0.
     ensures written { IfOk result
         (λ out. IsWrittenStripe options.now.rle options.now.stride schema.now
         (kept_rows schema.now batch.now) out.info out.bytes.items) }
-    // There is a statistic for each column, that of its cells.
+    // If the batch holds rows of `schema`, no column of them has more than 2,147,483,647 cells and the call succeeds,
+    // then the returned `stats` have one statistic for each column, in the order of the columns, which is that of the
+    // column's cells.
     ensures stats { IfOk result
         (λ out. HaveStats schema.now (kept_rows schema.now batch.now) (width schema.now) out.stats.items) }
-    // Want of memory is the only refusal.
+    // If the batch holds rows of `schema` and no column of them has more than 2,147,483,647 cells, then the only error
+    // is `OutOfMemory`.
     ensures refused { IfErr result (λ fault. fault ≡ OutOfMemory) }
 {
     let columns = all_columns(alloc, options, schema, batch)?;
@@ -146,7 +154,7 @@ pub fn write_batch(
     )?)
 }
 
-/// The rows in a batch.
+/// Keeps the rows in a batch.
 fn batch_of(alloc: Global, schema: &Schema, rows: &[Row<'_>]) -> Result<RowBatch, AllocError>
     requires { RowsFit schema.now (views rows.now) }
     ensures { IfOk result (Holds schema.now (views rows.now)) }
@@ -158,18 +166,20 @@ fn batch_of(alloc: Global, schema: &Schema, rows: &[Row<'_>]) -> Result<RowBatch
     Ok(batch)
 }
 
-/// The stripe of the rows (ORC specification, "Stripes"). Each row has to fit the schema, and no column
-/// may have more than 2,147,483,647 cells. The stripe stands for itself: its offset is 0.
+/// Writes a stripe of the rows (ORC specification, "Stripes"). Each row must fit the schema, and no column may have
+/// more than 2,147,483,647 cells. The stripe isn't placed in a file yet: its offset is 0.
 ///
-/// With a stride, a row index of each column comes first, in the order of the schema's types: for each group
-/// of that many rows the column's positions and the statistic of its cells. A directory lists an index also
-/// where it has no bytes.
+/// If the stride is above 0, the stripe begins with the row indexes of all columns, in the order of the schema's types.
+/// A row index has the column's positions and the statistic of its cells for each group of `stride` rows. The directory
+/// lists a row index even if it has no bytes.
 ///
-/// Columns come in the order of the schema's types, the streams of each as PRESENT, DATA, LENGTH and
-/// DICTIONARY_DATA; those without bytes are left out, and PRESENT where nothing is null. A column of
-/// texts is a dictionary where it has a text and at least twice as many texts as distinct ones.
+/// The streams of the columns follow in the order of the schema's types, those of each column in the order PRESENT,
+/// DATA, LENGTH and DICTIONARY_DATA. A stream without bytes is left out, and so is PRESENT if no cell is null. A column
+/// of texts gets a dictionary if it has a text and at least twice as many texts as distinct ones.
 ///
-/// Refusal: `OutOfMemory`.
+/// # Errors
+///
+/// `OutOfMemory` if there is no memory.
 pub fn write_stripe(
     alloc: Global,
     schema: &Schema,
