@@ -1,5 +1,5 @@
--- A cap on what is read at once: the tail's three parts have no more bytes together than it says. The ORC
--- specification has no such limit: it is this project's, for whoever reads files of strangers.
+-- A cap on the length of a tail: its three parts have at most `cap` bytes together. The ORC specification has no such
+-- limit: it is this project's, for programs that read files of strangers.
 use Rattle.std.specs.Prelude.{ℕ, ◌+◌, ◌-◌, ◌^◌, ◌≤◌, List}
 use Rattle.orc_wire.specs.declared.post_script.PostScript.{PostScript}
 use Rattle.orc_tail.specs.Layout.{postscript_length}
@@ -9,7 +9,7 @@ use Rattle.orc_tail.specs.declared.tail.Tail.{Tail}
 use Rattle.orc_tail.specs.declared.fault.FileFault.{FileFault}
 use Rattle.orc_tail.specs.declared.fault.FileFault.TheVariants.{Limit}
 
--- the greatest cap, which no file passes
+-- the greatest cap, which no file exceeds
 abbrev pub no_cap : ℕ
 no_cap = 2 ^ 64 - 1
 
@@ -17,17 +17,17 @@ no_cap = 2 ^ 64 - 1
 abbrev pub tail_length : List ℕ → PostScript → ℕ
 tail_length bytes postscript = postscript_length bytes + postscript.footer_length + postscript.metadata_length
 
--- the tests of both ends, the cap, and then the tests of a tail
+-- the tests of both ends, then the test of the cap, then all tests of a tail
 abbrev pub capped_tests : ℕ → List ℕ → Test Tail
 capped_tests cap bytes =
     end_tests bytes then λ postscript.
     check (tail_length bytes postscript ≤ cap) Limit
     (tail_tests bytes)
 
--- the bytes pass each test, the cap's too, and this is the tail found there
+-- the bytes pass each of these tests, which find this tail
 abbrev pub IsCappedTail : ℕ → List ℕ → Tail → Type 0
 IsCappedTail cap bytes = (capped_tests cap bytes).finds
 
--- the fault of the first of these tests that the bytes don't pass
+-- the fault of the first of these tests that the bytes fail
 abbrev pub CappedFault : ℕ → List ℕ → FileFault → Type 0
 CappedFault cap bytes = (capped_tests cap bytes).fails

@@ -54,7 +54,7 @@ postscript_of tail = record {
   magic = magic;
 }
 
--- parts one after the other, the last one's length behind them
+-- three parts one after the other, and then the length of the last one
 abbrev pub ended : List ℕ → List ℕ → List ℕ → List ℕ
 ended metadata footer postscript = metadata ++ (footer ++ (postscript ++ length postscript ∷ []))
 
@@ -64,7 +64,7 @@ tail_text tail = ended (metadata_text.text (metadata_of tail))
     (footer_text.text (footer_of tail))
     (post_script_text.text (postscript_of tail))
 
--- a file's bytes: the magic, its stripes, its tail
+-- a file's bytes: the magic, the stripes, the canonical text of the tail
 abbrev pub image : List ℕ → Tail → List ℕ
 image stripes tail = magic ++ (stripes ++ tail_text tail)
 
@@ -82,7 +82,7 @@ pub record IsWithinLimits (tail : Tail) : Type 0 where
   pub bytes : stripes_length tail.stripes ≤ most_bytes
   pub other : AreKept 11 tail.other
 
--- each number of the tail has the bits that its type gives it, as each tail in memory has
+-- each number of the tail fits the bits of its field, as it does in each tail in memory
 pub record HasBits (tail : Tail) : Type 0 where
   pub version : AreBelow (2 ^ 32) tail.version
   pub writer : IfSome tail.writer (λ v. v < 2 ^ 32)

@@ -1,5 +1,5 @@
--- Where the parts of a file stand (ORC specification, "File Tail"): `ORC`, the stripes, the metadata, the
--- footer, the postscript, and a last byte with the postscript's length. They are found from the end.
+-- The parts of a file (ORC specification, "File Tail"): `ORC`, the stripes, the metadata, the footer, the postscript,
+-- and a last byte with the postscript's length. Their places are computed from the end.
 use Rattle.std.specs.Prelude.{ℕ, ◌-◌, List, [], ◌∷◌, length, slice_index}
 use Rattle.orc_io.specs.Devices.{bytes_at}
 use Rattle.orc_wire.specs.declared.post_script.PostScript.{PostScript}
@@ -8,11 +8,11 @@ use Rattle.orc_wire.specs.declared.post_script.PostScript.{PostScript}
 abbrev pub magic : List ℕ
 magic = 79 ∷ 82 ∷ 67 ∷ []
 
--- the last byte
+-- the length of the postscript, which is the last byte
 abbrev pub postscript_length : List ℕ → ℕ
 postscript_length bytes = slice_index bytes (length bytes - 1)
 
--- where the postscript begins: its length is the file's last byte
+-- where the postscript begins
 abbrev pub postscript_place : List ℕ → ℕ
 postscript_place bytes = length bytes - 1 - postscript_length bytes
 

@@ -1,4 +1,4 @@
--- Where stripes stand in a file, and the limits on them (ORC specification, "Stripes"; the limits are this
+-- The places of stripes in a file, and the limits on them (ORC specification, "Stripes"; the limits are this
 -- project's).
 use Rattle.std.specs.Prelude.{◌≡◌, ℕ, ◌+◌, ◌^◌, ◌≤◌, List, [], ◌∷◌, get_or}
 use Rattle.std.specs.List.{AllByRecursion}
@@ -8,21 +8,21 @@ use Rattle.orc_tail.specs.Tests.{Test, check, gives}
 use Rattle.orc_tail.specs.declared.fault.FileFault.TheVariants.{BadStripe, Limit}
 use Rattle.orc_io.specs.Devices.{bytes_at}
 
--- how many bytes a stripe has: its index, its data, its footer
+-- the number of bytes of a stripe: of its index, its data and its footer together
 abbrev pub stripe_length : StripeInfo → ℕ
 stripe_length s = s.index_length + s.data_length + s.footer_length
 
--- the stripe with a number, where there is one
+-- the stripe with number n; one of zeros if there is none
 abbrev pub stripe_at : List StripeInfo → ℕ → StripeInfo
 stripe_at ss n =
     get_or ss n (record { offset = 0; index_length = 0; data_length = 0; footer_length = 0; number_of_rows = 0 })
 
--- the bytes of all stripes together
+-- the number of bytes of all stripes together
 abbrev pub stripes_length : List StripeInfo → ℕ
 stripes_length [] = 0
 stripes_length (s ∷ ss) = stripe_length s + stripes_length ss
 
--- the rows of all stripes together
+-- the number of rows of all stripes together
 abbrev pub stripes_rows : List StripeInfo → ℕ
 stripes_rows [] = 0
 stripes_rows (s ∷ ss) = s.number_of_rows + stripes_rows ss
@@ -31,24 +31,24 @@ stripes_rows (s ∷ ss) = s.number_of_rows + stripes_rows ss
 abbrev pub stripe_end : StripeInfo → ℕ
 stripe_end s = s.offset + stripe_length s
 
--- how many stripes a file has at most
+-- the greatest number of stripes of a file
 abbrev pub most_stripes : ℕ
 most_stripes = 65536
 
--- how many rows a stripe has at most
+-- the greatest number of rows of a stripe
 abbrev pub most_stripe_rows : ℕ
 most_stripe_rows = most_cells
 
--- how many rows a file has at most
+-- the greatest number of rows of a file
 abbrev pub most_rows : ℕ
 most_rows = 2 ^ 40
 
--- how many bytes a file's stripes have at most
+-- the greatest number of bytes of all stripes of a file together
 abbrev pub most_bytes : ℕ
 most_bytes = 2 ^ 40
 
--- Each stripe begins at a place or behind it, and ends before another; the next one begins at its end or
--- behind it. The first stripe here has number n.
+-- The first stripe begins at `from` or later, and each next stripe at the end of the one before it or later. Each
+-- stripe ends at `before` or earlier, and has no more rows than a stripe may have. The first stripe here has number n.
 abbrev pub stripe_tests : ℕ → ℕ → ℕ → List StripeInfo → Test (Unit {0})
 stripe_tests n from before [] = gives tt
 stripe_tests n from before (s ∷ ss) =
@@ -65,6 +65,6 @@ IsLaid place (s ∷ ss) = (s.offset ≡ place) × IsLaid (stripe_end s) ss
 abbrev pub AllBefore : ℕ → List StripeInfo → Type 0
 AllBefore place ss = AllByRecursion (λ s. stripe_end s ≤ place) ss
 
--- a stripe's bytes, of those of its file
+-- a stripe's bytes, within those of its file
 abbrev pub stripe_bytes : StripeInfo → List ℕ → List ℕ
 stripe_bytes info bytes = bytes_at info.offset (stripe_length info) bytes

@@ -22,15 +22,15 @@ use Rattle.orc_tail.specs.declared.fault.FileFault.{FileFault}
 use Rattle.orc_tail.specs.declared.fault.FileFault.TheVariants.{NotOrc, BadPostscript, Compressed, Encrypted, BadLengths, BadFooter, BadMetadata, BadTypes, BadStripe, RowCount, Limit}
 use Rattle.orc_tail.specs.declared.fault.FileFault.TheVariants.{SourceFailed, OutOfMemory}
 
--- the most numbers of a version
+-- the greatest number of numbers in a version
 abbrev pub most_versions : ℕ
 most_versions = 16
 
--- missing or empty, or `ORC`
+-- a magic is missing, empty or `ORC`
 abbrev pub IsMagic : List ℕ → Type 0
 IsMagic text = (text ≡ []) ⊎ (text ≡ magic)
 
--- the postscript's bytes, which begin at a place
+-- the tests of the postscript's bytes, which begin at a place
 abbrev pub postscript_tests : List ℕ → ℕ → Test PostScript
 postscript_tests text place =
     reads post_script text BadPostscript then λ postscript.
@@ -40,7 +40,7 @@ postscript_tests text place =
     (check (3 + postscript.metadata_length + postscript.footer_length ≤ place) BadLengths
     (gives postscript))))
 
--- the file's two ends
+-- the tests of both ends of a file, and of the postscript
 abbrev pub end_tests : List ℕ → Test PostScript
 end_tests bytes =
     check (4 ≤ length bytes) NotOrc
@@ -48,7 +48,7 @@ end_tests bytes =
     (check (postscript_length bytes + 4 ≤ length bytes) BadLengths
     (postscript_tests (postscript_bytes bytes) (postscript_place bytes))))
 
--- the footer's bytes; field 10 says how a file is encrypted
+-- the tests of the footer's bytes; field 10 describes how a file is encrypted
 abbrev pub footer_tests : List ℕ → Test (Footer × Shape)
 footer_tests text =
     reads footer text BadFooter then λ f.
@@ -57,7 +57,7 @@ footer_tests text =
     check (length f.statistics ≤ width s) BadFooter
     (gives (f, s)))
 
--- the metadata's bytes
+-- the tests of the metadata's bytes
 abbrev pub metadata_tests : List ℕ → Footer → Shape → Test Metadata
 metadata_tests text f s =
     reads metadata text BadMetadata then λ m.
@@ -65,8 +65,8 @@ metadata_tests text f s =
     (check (have_few (width s) m.stripe_stats ≡ true) BadMetadata
     (gives m))
 
--- What the footer and the metadata, which begins at a place, say: the statistics of the file's and of the
--- stripes' columns are found.
+-- The tests of what a footer and metadata contain; the metadata begins at the place `before`. They find the statistics
+-- of the file's and of the stripes' columns.
 abbrev pub limit_tests : ℕ → Footer → Shape → Metadata → Test (List Stat × List (List Stat))
 limit_tests before f s m =
     check (list_all in_limits (stats_read s 0 f.statistics) ≡ true) Limit
@@ -78,7 +78,7 @@ limit_tests before f s m =
     (check (stripes_length f.stripes ≤ most_bytes) Limit
     (gives (stats_read s 0 f.statistics, stripe_stats_read s m.stripe_stats)))))))
 
--- what a file's messages say of it together
+-- the tail that a file's messages make together
 abbrev pub tail_of : PostScript → Footer → Shape → List Stat × List (List Stat) → Tail
 tail_of postscript f s stats = record {
   version = postscript.version;
@@ -103,19 +103,19 @@ tail_tests bytes =
     limit_tests (metadata_place bytes postscript) f.0 f.1 m then λ stats.
     gives (tail_of postscript f.0 f.1 stats)
 
--- the bytes pass each test, and this is the tail found there
+-- the bytes pass each test of a tail, and the tests find this tail
 abbrev pub IsTail : List ℕ → Tail → Type 0
 IsTail bytes = (tail_tests bytes).finds
 
--- the fault of the first test that the bytes don't pass
+-- the fault of the first test of a tail that the bytes fail
 abbrev pub TailOpenFault : List ℕ → FileFault → Type 0
 TailOpenFault bytes = (tail_tests bytes).fails
 
--- why a read is refused: memory ran out, the source failed, or the bytes, where they are told, have this fault
+-- why a read fails: there is no memory, the source failed, or the bytes, if they are known, have this fault
 abbrev pub ReadFault : Option (List ℕ) → FileFault → (List ℕ → Type 0) → Type 0
 ReadFault told fault fails = (fault ≡ OutOfMemory) ⊎ ((fault ≡ SourceFailed) ⊎ IfSome told fails)
 
--- A fault that reading a tail ends with where the source hasn't failed: a test's, or want of memory.
+-- a fault with which reading a tail may end if the source hasn't failed: that of a test, or want of memory
 abbrev pub IsOfTail : FileFault → Type 0
 IsOfTail NotOrc = Unit {0}
 IsOfTail BadPostscript = Unit {0}

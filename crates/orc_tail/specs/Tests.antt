@@ -1,7 +1,7 @@
--- Tests that bytes have to pass, one after the other: each finds something or fails with a fault, and
--- what comes behind it is tested only where it finds something. A test carries its laws, so a list of
--- tests has them too: it finds one thing at most, where it fails it finds nothing, and it fails with
--- one fault (which of several faults of types is answered is open).
+-- Tests that bytes must pass, one after the other (this project's). Each test finds something or fails with a fault,
+-- and the next test comes only if it finds something. A test carries its laws, so a list of tests has them, too: it
+-- finds at most one thing; if it fails, it finds nothing; and it fails with one fault (which of several faults of types
+-- is unspecified).
 use Rattle.std.specs.Prelude.{◌≡◌, ℕ, List, ◌⊎◌}
 use Rattle.std.proofs.Common.{sym, ◌∙◌, subst, inl, inr}
 use Rattle.orc_wire.specs.declared.fault.WireFault.{WireFault}
@@ -19,15 +19,15 @@ use Rattle.orc_types.proofs.Exclusion.{no_schema}
 use Rattle.orc_tail.specs.declared.fault.FileFault.{FileFault}
 use Rattle.orc_tail.specs.declared.fault.FileFault.TheVariants.{BadTypes}
 
--- the fault is one of types
+-- the fault is `BadTypes`
 abbrev pub IsOfTypes : FileFault → Type 0
 IsOfTypes fault = (why : TypeFault) × (fault ≡ BadTypes why)
 
--- two faults are one, but for what is wrong with types
+-- two faults are equal, or both are `BadTypes`
 abbrev pub AreAlike : FileFault → FileFault → Type 0
 AreAlike e f = (e ≡ f) ⊎ (IsOfTypes e × IsOfTypes f)
 
--- what a test finds, and the fault where it fails: it finds one thing at most, and nothing where it fails
+-- what a test finds, and the faults with which it fails; and its laws
 pub record Test (A : Type 0) : Type 1 where
   pub finds : A → Type 0
   pub fails : FileFault → Type 0
@@ -35,7 +35,7 @@ pub record Test (A : Type 0) : Type 1 where
   pub none : (a : A) (fault : FileFault) → fails fault → finds a → ⊥
   pub single : (e f : FileFault) → fails e → fails f → AreAlike e f
 
--- nothing is left to test
+-- finds this, and tests nothing
 abbrev pub gives : {A : Type 0} → A → Test A
 gives a = record {
   finds = λ b. b ≡ a;
@@ -53,7 +53,7 @@ one_check P fault rest e f (inl p) (inr q) = absurd (p.0 q.0)
 one_check P fault rest e f (inr p) (inl q) = absurd (q.0 p.0)
 one_check P fault rest e f (inr p) (inr q) = rest.single e f p.1 q.1
 
--- this must hold, else that is the fault; then the rest
+-- P must hold, else the test fails with `fault`; then the rest
 abbrev pub check : {A : Type 0} → Type 0 → FileFault → Test A → Test A
 check P fault rest = record {
   finds = λ a. P × rest.finds a;
@@ -78,9 +78,9 @@ one_then test rest e f (inr p) (inl q) = absurd (test.none p.0 f q p.1)
 one_then {A} test rest e f (inr p) (inr q) =
     (rest q.0).single e f (subst (λ (a : A). (rest a).fails e) (test.one p.0 q.0 p.1 q.1) p.2) q.2
 
--- what the test finds is needed by the rest
+-- the rest needs what the test finds
 infixr 5 ◌then◌
--- one test and then another, which may look at what the first one found
+-- one test and then another, which may use what the first one found
 abbrev pub ◌then◌ : {A B : Type 0} → Test A → (A → Test B) → Test B
 ◌then◌ {A} {B} test rest = record {
   finds = λ b. (a : A) × test.finds a × (rest a).finds b;
@@ -90,7 +90,7 @@ abbrev pub ◌then◌ : {A B : Type 0} → Test A → (A → Test B) → Test B
   single = one_then test rest;
 }
 
--- the bytes spell a message
+-- the bytes must spell a message, else the test fails with `fault`
 abbrev pub reads : {C : Type 0} → Member C → List ℕ → FileFault → Test C
 reads members bytes fault = record {
   finds = Spells members 0 0 bytes;
@@ -100,7 +100,7 @@ reads members bytes fault = record {
   single = λ e f p q. inl (p.1 ∙ sym q.1);
 }
 
--- types are some schema's
+-- the types must make a schema
 abbrev pub schema_of : List TypeMsg → Test Shape
 schema_of types = record {
   finds = λ s. HasTypes s types;

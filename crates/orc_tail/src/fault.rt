@@ -11,55 +11,56 @@ use thiserror::Error;
 /// Why bytes are no file, or why a file can't be read or written.
 #[derive(Clone, Copy, Debug, PartialEq, Eq, Error)]
 pub enum FileFault {
-    /// The bytes don't begin with `ORC`, or the postscript's magic is another.
+    /// The bytes don't begin with `ORC`, or the postscript has another magic.
     #[error("file 1 NotOrc")]
     NotOrc,
-    /// The postscript doesn't read, or its version has more than 16 numbers.
+    /// The postscript's bytes are no valid message, or its version has more than 16 numbers.
     #[error("file 2 BadPostscript")]
     BadPostscript,
-    /// The file is compressed, by this kind.
+    /// The file is compressed, with the compression of this number.
     #[error("file 3 Compressed({0})")]
     Compressed(u32),
     /// The file is encrypted.
     #[error("file 4 Encrypted")]
     Encrypted,
-    /// The tail's parts are longer than the file.
+    /// The parts of the tail don't fit into the file.
     #[error("file 5 BadLengths")]
     BadLengths,
-    /// The footer doesn't read, or has more statistics than types.
+    /// The footer's bytes are no valid message, or it has more statistics than columns.
     #[error("file 6 BadFooter")]
     BadFooter,
-    /// The metadata doesn't read, or has statistics of more stripes or columns than the footer has.
+    /// The metadata's bytes are no valid message, or it has statistics of more stripes or columns than the footer has.
     #[error("file 7 BadMetadata")]
     BadMetadata,
-    /// The types are no schema's.
+    /// The footer's types make no schema.
     #[error("file 8 BadTypes: {0}")]
     BadTypes(TypeFault),
-    /// The stripe of this number begins too early or ends too late.
+    /// The stripe with this number begins before the end of what comes before it, or ends after the start of the
+    /// metadata.
     #[error("file 9 BadStripe({0})")]
     BadStripe(usize),
-    /// The stripes' rows aren't together as many as the file's.
+    /// The stripes don't have as many rows together as the footer says.
     #[error("file 10 RowCount")]
     RowCount,
-    /// A limit is passed.
+    /// A limit is exceeded, or would be with the row that was pushed.
     #[error("file 11 Limit")]
     Limit,
-    /// The bytes of the stripe of this number are no stripe.
+    /// The stripe with this number can't be read, for this reason.
     #[error("file 12 Stripe({0}): {1}")]
     Stripe(usize, StripeFault),
     /// A row doesn't fit the schema.
     #[error("file 13 RowShape")]
     RowShape,
-    /// The source failed.
+    /// A read of the source failed.
     #[error("file 14 SourceFailed")]
     SourceFailed,
-    /// The output failed.
+    /// A write to the output failed.
     #[error("file 15 WriteFailed")]
     WriteFailed,
-    /// Memory ran out.
+    /// There is no memory.
     #[error("file 16 OutOfMemory")]
     OutOfMemory,
-    /// An earlier refusal stands.
+    /// The writer failed in an earlier call.
     #[error("file 17 Failed")]
     Failed,
 }
@@ -80,9 +81,10 @@ impl<T: Drop> From<AllocFailed<T>> for FileFault {
     }
 }
 
-/// The file's fault where its stripe with this number is refused.
+/// Returns the file's fault for a fault of its stripe with this number.
 pub fn stripe_fault(number: usize, cause: StripeFault) -> FileFault
-    // Want of memory is the file's own; every other cause is answered with the stripe's number.
+    // If `cause` is `OutOfMemory`, then the answer is `OutOfMemory`. If `cause` is any other fault, the answer is
+    // `Stripe` with `number` and `cause`.
     ensures { ((cause ≡ stripe.OutOfMemory) × (result ≡ fault.OutOfMemory))
         ⊎ ((cause ≢ stripe.OutOfMemory) × (result ≡ fault.Stripe number cause)) }
 {

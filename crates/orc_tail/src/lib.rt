@@ -1,4 +1,5 @@
-//! A file's tail, which says what stands in the file: read from the file's bytes, tested, and written behind its stripes.
+//! The tail of a file, which describes the file's contents: it is read from the file's bytes and tested, and written
+//! after the stripes.
 #![tactic(auto)]
 
 mod fault;

@@ -1,4 +1,4 @@
-//! What a file says of itself.
+//! The tail of a file.
 mod extent;
 mod file_stats;
 mod footer;
@@ -18,29 +18,29 @@ use orc_types::Schema;
 use orc_wire::{Bytes, Items, StripeInfo, UserMetadataItem};
 pub use reading::{read_capped_tail, read_tail};
 
-/// What a file says of itself behind its stripes (ORC specification, "File Tail").
+/// What a file stores about itself, after its stripes (ORC specification, "File Tail").
 #[derive(Debug, Drop)]
 pub struct Tail {
-    /// The version of the format, as 0 and 11.
+    /// The version of the format, such as 0 and 11.
     pub version: Items<u32>,
     /// The number of the program that wrote the file.
     pub writer: Option<u32>,
-    /// The version of that program's writing.
+    /// The version of the writer in that program.
     pub writer_version: Option<u32>,
-    /// The columns.
+    /// The types of the columns.
     pub schema: Schema,
-    /// Where the stripes stand, in their order.
+    /// The records of the stripes, in order: offset, lengths and number of rows.
     pub stripes: Items<StripeInfo>,
-    /// The statistics of each stripe's columns, by the columns' numbers.
+    /// The statistics of each stripe's columns, in the order of the columns.
     pub stripe_stats: Items<Items<Stat>>,
-    /// The statistics of the file's columns, by the columns' numbers.
+    /// The statistics of the file's columns, in the order of the columns.
     pub file_stats: Items<Stat>,
-    /// The user's own pairs of a name and a value.
+    /// The user metadata: pairs of a name and a value.
     pub user: Items<UserMetadataItem>,
-    /// How many rows a group of the row index has; 0 where there is no index.
+    /// The number of rows of a row group; 0 if there are no row indexes.
     pub stride: u32,
-    /// How many rows the file holds.
+    /// The number of rows of the file.
     pub rows: u64,
-    /// The footer's fields above 10 as they stood, each with its key.
+    /// The footer's fields with numbers above 10, unchanged, each with its key.
     pub other: Bytes,
 }

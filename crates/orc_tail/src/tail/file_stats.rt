@@ -1,4 +1,4 @@
-//! The statistics of a file's columns, joined of those of its stripes.
+//! The statistics of a file's columns, joined from those of its stripes.
 ghost use Rattle.std.specs.Prelude.{◌≡◌, ◌≤◌, ◌<◌, ◌^◌, ◌⊎◌, ℕ, true, sum_by, All, IfOk, OnOk, IfErr};
 ghost use Rattle.orc_values.specs.Shapes.{width};
 ghost use Rattle.orc_stats.specs.declared.stat.Stat.{Stat};
@@ -12,7 +12,7 @@ use orc_types::Schema;
 use orc_wire::{Bytes, Items};
 use std::alloc::{AllocError, Global};
 
-/// A copy of bytes that may be there.
+/// Copies bytes, if there are any.
 fn copy_bytes(alloc: Global, bytes: &Option<Bytes>) -> Result<Option<Bytes>, AllocError>
     ensures { IfOk result (λ copy. copy ≡ bytes.now) }
 {
@@ -22,7 +22,7 @@ fn copy_bytes(alloc: Global, bytes: &Option<Bytes>) -> Result<Option<Bytes>, All
     }
 }
 
-/// A copy of a statistic.
+/// Copies a statistic.
 fn copy_stat(alloc: Global, stat: &Stat) -> Result<Stat, AllocError>
     ensures { IfOk result (λ copy. copy ≡ stat.now) }
 {
@@ -69,7 +69,7 @@ fn copy_stat(alloc: Global, stat: &Stat) -> Result<Stat, AllocError>
     })
 }
 
-/// The statistics of a column in each stripe, copied.
+/// Copies the statistics of a column from each stripe that has one.
 fn of_column(alloc: Global, stats: &[Items<Stat>], column: usize) -> Result<Vec<Stat>, AllocError>
     ensures { IfOk result (λ found. found.items ≡ column_stats column stats.now) }
 {
@@ -82,10 +82,13 @@ fn of_column(alloc: Global, stats: &[Items<Stat>], column: usize) -> Result<Vec<
     Ok(found)
 }
 
-/// The statistics of a file's columns, one for each: all that its stripes have of the column, joined (ORC
-/// specification, "Column Statistics"). Each stripe's statistics stand by the number of the column.
+/// Joins the statistics of stripes to one statistic for each column of the file (ORC specification, "Column
+/// Statistics"). Each stripe's statistics are in the order of the columns, and each must be of its column's kind.
 ///
-/// Refusals: `CountTooLarge` where a column has more than 2^62 values; and `OutOfMemory`.
+/// # Errors
+///
+/// - `CountTooLarge` if a column has more than 2^62 values;
+/// - `OutOfMemory` if there is no memory.
 pub fn file_statistics(
     alloc: Global,
     schema: &Schema,
@@ -93,12 +96,16 @@ pub fn file_statistics(
 ) -> Result<Vec<Stat>, StatFault>
     requires kinds { (c : ℕ) → c < width schema.now
         → All (λ (s : Stat). body_is_of (kind_at schema.now c) s.body ≡ true) (column_stats c stats.now) }
-    // The statistic that is answered of each column is the joined one of those of its stripes.
+    // If each statistic of a stripe is of its column's kind and the call succeeds, then the answer has one statistic
+    // for each column of `schema`, in order: the one that joins the statistics that the stripes have of this column.
     ensures found { IfOk result (λ found. found.items ≡ file_stats schema.now stats.now) }
-    // Where statistics are answered, each column has at most 2^62 values.
+    // If each statistic of a stripe is of its column's kind and the call succeeds, then for each column of `schema` the
+    // counts of values in the stripes' statistics are together at most 2^62.
     ensures few { OnOk result ((c : ℕ) → c < width schema.now
         → sum_by (λ (s : Stat). s.count) (column_stats c stats.now) ≤ 2 ^ 62) }
-    // A refusal is want of memory, or CountTooLarge where a column has more than 2^62 values.
+    // If each statistic of a stripe is of its column's kind, then an error is `OutOfMemory` or `CountTooLarge`, and
+    // `CountTooLarge` comes only if for a column of `schema` the counts of values in the stripes' statistics are
+    // together more than 2^62.
     ensures fault { IfErr result (λ e. (e ≡ fault.OutOfMemory)
         ⊎ ((e ≡ fault.CountTooLarge) × (c : ℕ) × (c < width schema.now)
         × (2 ^ 62 < sum_by (λ (s : Stat). s.count) (column_stats c stats.now)))) }

@@ -1,4 +1,4 @@
-//! The footer, and the schema of its types, from its bytes.
+//! Reads the footer, and the schema of its types.
 ghost use Rattle.std.specs.Prelude.{◌≡◌, ◌⊎◌, IfOk, IfErr};
 ghost use Rattle.std.specs.Bool.{OnTrue, OnFalse};
 ghost use Rattle.orc_wire.specs.CanonicalKinds.{AreKept};
@@ -10,7 +10,7 @@ use orc_types::{Schema, TypeFault};
 use orc_wire::{Bytes, Fields, Footer, Message, WireFault};
 use std::alloc::Global;
 
-/// Whether the bytes are fields whose numbers are all above 10.
+/// Returns whether the bytes are fields whose numbers are all above 10.
 fn are_above_ten(kept: &Bytes) -> bool
     ensures yes { OnTrue result (AreKept 11 kept.now) }
     ensures no { OnFalse result (AreKept 11 kept.now → ⊥) }
@@ -28,9 +28,11 @@ fn are_above_ten(kept: &Bytes) -> bool
     true
 }
 
-/// The footer that the bytes are, and the schema of its types.
+/// Reads a footer from its bytes. Returns it with the schema of its types.
 ///
-/// Refusals: the fault of the first test that the bytes don't pass, or `OutOfMemory`.
+/// # Errors
+///
+/// The fault of the first test that the bytes fail, or `OutOfMemory`.
 pub(crate) fn footer_in(alloc: Global, text: &[u8]) -> Result<(Footer, Schema), FileFault>
     ensures found { IfOk result (λ found. (footer_tests text.now).finds (found.0, found.1)) }
     ensures fault { IfErr result (λ fault. (fault ≡ OutOfMemory) ⊎ (footer_tests text.now).fails fault) }

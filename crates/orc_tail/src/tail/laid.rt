@@ -1,4 +1,4 @@
-//! Whether stripes lie one after the other.
+//! Tests whether stripes lie one after the other.
 ghost use Rattle.std.specs.Prelude.{◌≡◌};
 ghost use Rattle.std.specs.Bool.{OnTrue, OnFalse};
 ghost use Rattle.orc_tail.specs.Stripes.{IsLaid};
@@ -7,7 +7,7 @@ use crate::tail::Tail;
 use crate::tail::extent::stripe_end;
 use orc_wire::StripeInfo;
 
-/// Whether the stripes lie one after the other behind `ORC`.
+/// Returns whether the stripes lie one after the other, the first one after `ORC`.
 fn lie_behind_magic(stripes: &[StripeInfo]) -> bool
     ensures yes { OnTrue result (IsLaid 3 stripes.now) }
     ensures no { OnFalse result (IsLaid 3 stripes.now → ⊥) }
@@ -23,10 +23,10 @@ fn lie_behind_magic(stripes: &[StripeInfo]) -> bool
 }
 
 impl Tail {
-    /// Whether the stripes lie one after the other behind `ORC`, without gaps, as `put` wants them.
+    /// Returns whether the stripes lie one after the other without gaps, the first one after `ORC`, as `put` needs
+    /// them.
     pub fn is_laid(&self) -> bool
-        // The answer is yes exactly where the stripes lie from byte 3 on, one after the other
-        // without gaps.
+        // The answer is true if and only if the tail's stripes lie from byte 3 on, one after the other without gaps.
         ensures yes { OnTrue result (IsLaid 3 self.now.stripes) }
         ensures no { OnFalse result (IsLaid 3 self.now.stripes → ⊥) }
     {

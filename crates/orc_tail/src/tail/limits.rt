@@ -1,4 +1,4 @@
-//! What a footer and the metadata say of stripes, rows and statistics, and the limits on it.
+//! The limits on the stripes, rows and statistics in a footer and in the metadata.
 ghost use Rattle.std.specs.Prelude.{◌≡◌, ◌≤◌, ◌⊎◌, length, true, OnOk, IfOk, IfErr};
 ghost use Rattle.orc_values.specs.Shapes.{width};
 ghost use Rattle.orc_tail.specs.Tails.{limit_tests, IsOfTail};
@@ -15,16 +15,17 @@ use orc_values::MOST_STRIPE_ROWS;
 use orc_wire::{Footer, Items, Metadata, StripeInfo};
 use std::alloc::Global;
 
-/// The most stripes of a file.
+/// The greatest number of stripes of a file.
 pub const MOST_STRIPES: usize = 65_536;
 
-/// The most rows of a file.
+/// The greatest number of rows of a file.
 pub const MOST_ROWS: u64 = 1 << 40;
 
-/// The most bytes of all stripes of a file together.
+/// The greatest number of bytes of all stripes of a file together.
 pub const MOST_BYTES: u64 = 1 << 40;
 
-/// The rows and the bytes of stripes that lie one after the other before a place.
+/// Tests that the stripes come one after the other, before the place `before`. Returns the numbers of their rows and
+/// bytes.
 fn stripes_in(stripes: &[StripeInfo], before: u64) -> Result<(u64, u64), FileFault>
     requires { length stripes.now ≤ most_stripes }
     ensures lie { OnOk result ((stripe_tests 0 3 before stripes.now).finds tt) }
@@ -51,10 +52,12 @@ fn stripes_in(stripes: &[StripeInfo], before: u64) -> Result<(u64, u64), FileFau
     Ok((rows, bytes))
 }
 
-/// The statistics of the file's and of the stripes' columns, where the footer and the metadata, which
-/// begins at a place, are within the limits.
+/// Tests that a footer and metadata, which begins at the place `before`, are within the limits. Returns the statistics
+/// of the file's and of the stripes' columns.
 ///
-/// Refusals: the fault of the first test that they don't pass, or `OutOfMemory`.
+/// # Errors
+///
+/// The fault of the first test that the footer and the metadata fail, or `OutOfMemory`.
 pub(crate) fn limits_of(
     alloc: Global,
     before: u64,

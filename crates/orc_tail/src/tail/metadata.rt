@@ -1,4 +1,4 @@
-//! The metadata, from its bytes.
+//! Reads the metadata.
 ghost use Rattle.std.specs.Prelude.{◌≡◌, ◌⊎◌, IfOk, IfErr};
 ghost use Rattle.orc_tail.specs.Tails.{metadata_tests, IsOfTail};
 ghost use Rattle.orc_tail.specs.Statistics.{have_few};
@@ -9,7 +9,7 @@ use orc_types::Schema;
 use orc_wire::{Footer, Message, Metadata, StripeStatistics, WireFault};
 use std::alloc::Global;
 
-/// Whether no stripe has statistics of more columns than that.
+/// Returns whether no stripe has statistics of more than `columns` columns.
 fn have_few_stats(stats: &[StripeStatistics], columns: usize) -> bool
     ensures { result ≡ have_few columns stats.now }
 {
@@ -21,9 +21,11 @@ fn have_few_stats(stats: &[StripeStatistics], columns: usize) -> bool
     true
 }
 
-/// The metadata that the bytes are, in a file with this footer and schema.
+/// Reads the metadata from its bytes, in a file with this footer and schema.
 ///
-/// Refusals: the fault of the first test that the bytes don't pass, or `OutOfMemory`.
+/// # Errors
+///
+/// The fault of the first test that the bytes fail, or `OutOfMemory`.
 pub(crate) fn metadata_in(
     alloc: Global,
     text: &[u8],

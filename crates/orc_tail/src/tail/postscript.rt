@@ -1,4 +1,4 @@
-//! The postscript, from its bytes.
+//! Reads the postscript.
 ghost use Rattle.std.specs.Prelude.{◌≡◌, ◌⊎◌, IfOk, IfErr};
 ghost use Rattle.std.specs.Bool.{OnTrue, OnFalse};
 ghost use Rattle.orc_tail.specs.Tails.{IsMagic, postscript_tests, IsOfTail};
@@ -8,10 +8,10 @@ use crate::fault::FileFault;
 use orc_wire::{Bytes, Message, PostScript, WireFault};
 use std::alloc::Global;
 
-/// The most numbers of a version.
+/// The greatest number of numbers in a version.
 const MOST_VERSIONS: usize = 16;
 
-/// Whether a postscript's magic is missing, empty or `ORC`.
+/// Returns whether a postscript's magic is missing, empty or `ORC`.
 fn is_magic(text: &Bytes) -> bool
     ensures yes { OnTrue result (IsMagic text.now) }
     ensures no { OnFalse result (IsMagic text.now → ⊥) }
@@ -20,9 +20,11 @@ fn is_magic(text: &Bytes) -> bool
     text.is_empty() || text == b"ORC".as_slice()
 }
 
-/// The postscript that the bytes are, which begin at a place of their file.
+/// Reads the postscript from its bytes, which begin at `place` in the file.
 ///
-/// Refusals: the fault of the first test that the bytes don't pass, or `OutOfMemory`.
+/// # Errors
+///
+/// The fault of the first test that the bytes fail, or `OutOfMemory`.
 pub(crate) fn postscript_in(alloc: Global, text: &[u8], place: u64) -> Result<PostScript, FileFault>
     ensures found { IfOk result (λ postscript. (postscript_tests text.now place).finds postscript) }
     ensures fault { IfErr result (λ fault. (fault ≡ OutOfMemory) ⊎ (postscript_tests text.now place).fails fault) }
@@ -42,7 +44,7 @@ pub(crate) fn postscript_in(alloc: Global, text: &[u8], place: u64) -> Result<Po
     if postscript.compression != 0 {
         return Err(FileFault::Compressed(postscript.compression));
     }
-    // two lengths of 64 bits need one bit more together
+    // the sum of two lengths of 64 bits needs one bit more
     let parts = u128::from(postscript.metadata_length) + u128::from(postscript.footer_length);
     if parts + 3 > u128::from(place) {
         return Err(FileFault::BadLengths);

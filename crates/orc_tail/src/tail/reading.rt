@@ -1,5 +1,5 @@
-//! Reading a file's tail: at most five ranges, in this order, and none that is empty: the first 3 bytes, the last
-//! byte, the postscript, the footer, the metadata. A test that fails ends the reading.
+//! Reads the tail of a file. At most five ranges are read, in this order: the first 3 bytes, the last byte, the
+//! postscript, the footer, the metadata. Empty ranges are skipped, and a test that fails ends the reading.
 ghost use Rattle.std.specs.Prelude.{◌≡◌, ◌+◌, ◌<◌, ◌≤◌, ◌⊎◌, length, OnOk, IfOk, IfErr, IfSome};
 ghost use Rattle.orc_io.specs.Devices.{bytes_at};
 ghost use Rattle.orc_io.specs.Leaves.{LeavesSource};
@@ -21,7 +21,7 @@ use orc_io::{RangeFault, Source, read_range};
 use orc_wire::PostScript;
 use std::alloc::Global;
 
-/// The postscript, the place where it begins, and how many bytes it has.
+/// The postscript, the place where it begins, and its length in bytes.
 #[derive(Drop)]
 struct End {
     postscript: PostScript,
@@ -29,7 +29,7 @@ struct End {
     length: u64,
 }
 
-/// Fills the slice from a place on.
+/// Fills the slice with the source's bytes from `at` on.
 fn read_into<S: Source>(source: &mut S, at: u64, into: &mut [u8]) -> Result<(), FileFault>
     requires { at + length into.old ≤ S.size source.old }
     ensures bytes { OnOk result (IfSome (S.told source.old) (λ bytes. into.new ≡ bytes_at at (length into.old) bytes)) }
@@ -45,7 +45,7 @@ fn read_into<S: Source>(source: &mut S, at: u64, into: &mut [u8]) -> Result<(), 
     }
 }
 
-/// The bytes of a range. Nothing is read where it is empty.
+/// Returns the bytes of a range. Nothing is read if the range is empty.
 fn range_of<S: Source>(
     alloc: Global,
     source: &mut S,
@@ -66,7 +66,7 @@ fn range_of<S: Source>(
     }
 }
 
-/// Whether the bytes are `ORC`.
+/// Returns whether the bytes are `ORC`.
 fn is_orc(front: &[u8]) -> bool
     ensures yes { OnTrue result (front.now ≡ magic) }
     ensures no { OnFalse result (front.now ≡ magic → ⊥) }
@@ -74,7 +74,7 @@ fn is_orc(front: &[u8]) -> bool
     front == b"ORC".as_slice()
 }
 
-/// The postscript of a file with these two ends.
+/// Tests both ends of a file, and reads its postscript.
 fn read_end<S: Source>(alloc: Global, source: &mut S) -> Result<End, FileFault>
     ensures sized { S.size source.old ≤ no_cap }
     ensures found { IfOk result (λ end. IfSome (S.told source.old)
@@ -116,22 +116,23 @@ fn read_end<S: Source>(alloc: Global, source: &mut S) -> Result<End, FileFault>
     })
 }
 
-/// Whether a postscript, a footer and metadata of so many bytes are together longer than the cap.
+/// Returns whether a postscript, a footer and metadata of these lengths are together longer than the cap.
 fn is_above(cap: u64, postscript: u64, footer: u64, metadata: u64) -> bool
     ensures yes { OnTrue result (cap < postscript + footer + metadata) }
     ensures no { OnFalse result (postscript + footer + metadata ≤ cap) }
 {
-    // three lengths of 64 bits need two bits more together
+    // the sum of three lengths of 64 bits needs two bits more
     let parts = u128::from(postscript) + (u128::from(footer) + u128::from(metadata));
     parts > u128::from(cap)
 }
 
-/// The tail of a file whose source is lent, of which no more bytes than the cap are read at once: for whoever reads
-/// files of strangers.
+/// Reads the tail of a file if its parts have at most `cap` bytes together: for programs that read files of strangers.
+/// The source stays the caller's.
 ///
-/// The tests and the refusals are those of `read_tail`, and one more stands between the ends' and the footer's, before
-/// footer and metadata are read: `Limit` where metadata, footer and postscript have together more bytes than the cap
-/// says.
+/// # Errors
+///
+/// Those of `read_tail`, and `Limit` if metadata, footer and postscript have more than `cap` bytes together. This is
+/// tested after both ends and the postscript, before footer and metadata are read.
 pub fn read_capped_tail<S: Source>(
     alloc: Global,
     source: &mut S,
@@ -139,23 +140,26 @@ pub fn read_capped_tail<S: Source>(
 ) -> Result<Tail, FileFault>
     // The source has at most 2^64 - 1 bytes.
     ensures sized { S.size source.old ≤ no_cap }
-    // Where the source tells its bytes, the tail that is answered is the one that they have, and
-    // metadata, footer and postscript have together no more bytes than the cap.
+    // If the source's bytes are known, then a returned tail is the tail of these bytes, and their metadata, footer and
+    // postscript have at most `cap` bytes together.
     ensures found { IfOk result (λ tail. IfSome (S.told source.old) (λ bytes. IsCappedTail cap bytes tail)) }
-    // The tail is within the limits and its stripes end within the source, also where this tells
-    // nothing.
+    // A returned tail is within the limits and its stripes end within the source, whether or not the source's bytes are
+    // known.
     ensures limits { IfOk result (λ tail. IsWithinLimits tail) }
     ensures within { IfOk result (λ tail. AllBefore (S.size source.old) tail.stripes) }
 
-    // Where the source tells its bytes, a refusal names the first test that they fail, Limit for
-    // the cap, or it is want of memory or SourceFailed.
+    // If the source's bytes are known, then an error is `OutOfMemory`, `SourceFailed`, or the fault of the first test
+    // that the bytes fail: of the tests of both ends and of the postscript, then the one of the cap, whose fault is
+    // `Limit`, then the other tests of a tail.
     ensures fault { IfErr result (λ fault. ReadFault (S.told source.old) fault (λ bytes. CappedFault cap bytes fault)) }
-    // Over any source a refusal is SourceFailed, or it is one that a tail may have and no read
-    // failed.
+    // An error is `SourceFailed`, or the source's count of failures is unchanged and the error is `NotOrc`,
+    // `BadPostscript`, `Compressed` with a kind other than 0, `Encrypted`, `BadLengths`, `BadFooter`, `BadMetadata`,
+    // `BadTypes` with a fault other than `OutOfMemory`, `BadStripe` with a number below 65,536, `RowCount`, `Limit` or
+    // `OutOfMemory`.
     ensures unfailed { IfErr result (λ fault. (fault ≡ SourceFailed)
         ⊎ (IsOfTail fault × (S.failures source.new ≡ S.failures source.old))) }
-    // After each answer the source has the length that it had, and tells what it told. Its count of
-    // failures rises with SourceFailed, and stands where a tail is answered or memory is refused.
+    // The call changes neither the source's length nor what is known of its bytes. The source's count of failures rises
+    // if the error is `SourceFailed`, and is unchanged if a tail is returned or the error is `OutOfMemory`.
     ensures source { LeavesSource S.told S.size S.failures SourceFailed (λ fault. fault ≡ OutOfMemory)
         source.old source.new result }
 {
@@ -194,10 +198,13 @@ pub fn read_capped_tail<S: Source>(
     })
 }
 
-/// The tail of a file whose source is lent.
+/// Reads the tail of a file (ORC specification, "File Tail"). The source stays the caller's.
 ///
-/// The tests come in this order, and the fault is the first one's that fails: both ends and the postscript, the
-/// footer, the metadata, the limits and the stripes' places. `SourceFailed` and `OutOfMemory` may come instead.
+/// # Errors
+///
+/// The fault of the first test that the file fails, in this order: the tests of both ends and of the postscript, of the
+/// footer, of the metadata, of the limits and of the stripes' places. Or `SourceFailed` if a read fails, and
+/// `OutOfMemory` if there is no memory.
 pub fn read_tail<S: Source>(alloc: Global, source: &mut S) -> Result<Tail, FileFault>
     // If the source's bytes are known, then a returned tail is the tail of these bytes: they pass each test of a tail,
     // and the tests find this tail.

@@ -1,4 +1,4 @@
-//! The statistics of columns, from their messages.
+//! Reads the statistics of columns from their messages.
 ghost use Rattle.std.specs.Prelude.{◌≡◌, ◌⊎◌, ◌≤◌, length, true, false, List, IfOk, IfErr};
 ghost use Rattle.std.specs.List.{list_all};
 ghost use Rattle.orc_values.specs.Shapes.{width};
@@ -16,10 +16,10 @@ use std::alloc::Global;
 /// The number of kind LIST in a list of types.
 const LIST: u32 = 10;
 
-/// That of kind MAP.
+/// The number of kind MAP in a list of types.
 const MAP: u32 = 11;
 
-/// What is counted of a column of this type.
+/// Returns the kind of statistics that a column of this type has.
 pub(crate) fn kind_of_type(type_of: &TypeMsg) -> StatKind
     ensures { result ≡ kind_of_number type_of.now.kind }
 {
@@ -30,7 +30,7 @@ pub(crate) fn kind_of_type(type_of: &TypeMsg) -> StatKind
     }
 }
 
-/// The statistic of a column of that kind.
+/// Reads a statistic of this kind.
 fn stat_in(alloc: Global, kind: StatKind, message: &ColumnStats) -> Result<Stat, FileFault>
     ensures found { IfOk result (λ s. s ≡ stat_read kind message.now) }
     ensures limits { IfOk result (λ s. in_limits (stat_read kind message.now) ≡ true) }
@@ -44,7 +44,7 @@ fn stat_in(alloc: Global, kind: StatKind, message: &ColumnStats) -> Result<Stat,
     }
 }
 
-/// The statistics of a schema's columns.
+/// Reads the statistics of a schema's columns.
 pub(crate) fn stats_in(
     alloc: Global,
     schema: &Schema,
@@ -65,7 +65,7 @@ pub(crate) fn stats_in(
     Ok(Items::from_vec(stats))
 }
 
-/// The statistics of a schema's columns, for each stripe.
+/// Reads the statistics of a schema's columns for each stripe.
 pub(crate) fn stripe_stats_in(
     alloc: Global,
     schema: &Schema,

@@ -1,5 +1,5 @@
-//! The canonical text of a file's tail. After a refusal, which is `OutOfMemory`, each function has left
-//! what stood in front.
+//! Writes the canonical text of a file's tail. If a function fails, which it does with `OutOfMemory` only, the bytes
+//! that were in `out` before are still in front.
 ghost use Rattle.std.specs.Prelude.{◌≡◌, ◌++◌, ◌+◌, ◌≤◌, ◌<◌, ◌^◌, map, OnOk, OnErr, IfOk, IfErr, IfSome, length};
 ghost use Rattle.std.specs.List.{AllByRecursion};
 ghost use Rattle.orc_wire.specs.Fields.{varint, sized};
@@ -72,7 +72,7 @@ fn put_raw(bytes: &[u8], out: &mut Vec<u8>) -> Result<(), FileFault>
     Ok(())
 }
 
-/// A field with a message.
+/// Appends a field with a message.
 fn put_message<M: Message>(n: u32, message: &M, out: &mut Vec<u8>) -> Result<(), FileFault>
     ensures text { OnOk result (out.new.items ≡ out.old.items ++ sized_text n (M.canonical.text message.now)) }
     ensures bounded { OnOk result (M.canonical.bounded message.now) }
@@ -86,7 +86,7 @@ fn put_message<M: Message>(n: u32, message: &M, out: &mut Vec<u8>) -> Result<(),
     }
 }
 
-/// A field for each message.
+/// Appends a field for each message.
 fn put_each<M: Message>(n: u32, messages: &[M], out: &mut Vec<u8>) -> Result<(), FileFault>
     ensures text { OnOk result (out.new.items ≡ out.old.items ++ list_text
         (λ m. sized (M.canonical.text m)) n messages.now) }
@@ -100,7 +100,7 @@ fn put_each<M: Message>(n: u32, messages: &[M], out: &mut Vec<u8>) -> Result<(),
     Ok(())
 }
 
-/// The messages of columns' statistics.
+/// Returns the messages of columns' statistics.
 fn messages_of(alloc: Global, stats: &[Stat]) -> Result<Items<ColumnStats>, FileFault>
     ensures found { IfOk result (λ messages. messages ≡ map message_of stats.now) }
     ensures refused { IfErr result (λ fault. fault ≡ OutOfMemory) }
@@ -115,7 +115,7 @@ fn messages_of(alloc: Global, stats: &[Stat]) -> Result<Items<ColumnStats>, File
     Ok(Items::from_vec(messages))
 }
 
-/// The metadata: a field for the statistics of each stripe.
+/// Appends the metadata: a field for the statistics of each stripe.
 fn put_metadata(stats: &[Items<Stat>], out: &mut Vec<u8>) -> Result<(), FileFault>
     ensures text { OnOk result (out.new.items ≡ out.old.items ++ list_text
         (λ xs. sized (stripe_stats_text.text (stripe_message xs))) 1 stats.now) }
@@ -132,7 +132,7 @@ fn put_metadata(stats: &[Items<Stat>], out: &mut Vec<u8>) -> Result<(), FileFaul
     Ok(())
 }
 
-/// Where the stripes end that lie one after the other behind `ORC`.
+/// Returns where stripes end that lie one after the other, the first one after `ORC`.
 fn content_end(stripes: &[StripeInfo]) -> u64
     requires { stripes_length stripes.now ≤ most_bytes }
     ensures { result ≡ 3 + stripes_length stripes.now }
@@ -164,7 +164,7 @@ fn put_footer(tail: &Tail, out: &mut Vec<u8>) -> Result<(), FileFault>
     put_raw(tail.other.as_slice(), out)
 }
 
-/// The postscript behind metadata and a footer of these lengths.
+/// Appends the postscript that follows metadata and a footer of these lengths.
 fn put_postscript(
     tail: &Tail,
     metadata: u64,
@@ -216,11 +216,13 @@ fn put_parts(tail: &Tail, out: &mut Vec<u8>) -> Result<(), FileFault>
 }
 
 impl Tail {
-    /// Appends the canonical text of all that follows the stripes of a file: the metadata, the footer,
-    /// the postscript and its length (ORC specification, "File Tail"). The tail is within the limits,
-    /// and its stripes lie one after the other behind `ORC`.
+    /// Appends the canonical text of all that follows the stripes of a file: the metadata, the footer, the postscript
+    /// and its length (ORC specification, "File Tail"). The tail must be within the limits, and its stripes must lie
+    /// one after the other without gaps, the first one after `ORC`.
     ///
-    /// A refusal, which is `OutOfMemory`, leaves `out` as it was.
+    /// # Errors
+    ///
+    /// `OutOfMemory` if there is no memory. `out` then has the bytes that it had before.
     pub fn put(&self, out: &mut Vec<u8>) -> Result<(), FileFault>
         requires limits { IsWithinLimits self.now }
         requires laid { IsLaid 3 self.now.stripes }
