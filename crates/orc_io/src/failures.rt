@@ -4,8 +4,8 @@ ghost use Rattle.std.specs.Prelude.{◌≡◌, ◌+◌};
 use std::marker::Model;
 use std::snapshot::Snapshot;
 
-/// How often a device has failed. It takes no memory and has no bound, since contracts alone see it: it is
-/// none, or one more than it was before, and a snapshot keeps what it was.
+/// How often a device has failed. The count takes no memory and has no bound, since only contracts see it: it is none,
+/// or one more than before, and a snapshot keeps what it was before.
 #[derive(Drop)]
 pub struct Failures {
     before: Option<Snapshot<Failures>>,
@@ -23,17 +23,17 @@ impl Model for Failures {
 }
 
 impl Failures {
-    /// No failure yet.
+    /// Makes a count of no failures.
     pub fn new() -> Failures
-        // A count of failures begins at none.
+        // The returned count of failures is 0.
         ensures { result ≡ 0 }
     {
         Failures { before: None }
     }
 
-    /// One failure more.
+    /// Counts one failure more.
     pub fn note(&mut self)
-        // Each failure that is noted is one more.
+        // The call raises the count of failures by one.
         ensures { self.new ≡ self.old + 1 }
     {
         let before = Snapshot::of(self);

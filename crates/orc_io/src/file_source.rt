@@ -9,12 +9,11 @@ use std::os::unix::fs::FileExt;
 use std::rt::Files;
 use std::time::SystemTime;
 
-/// A file of the system, as long as it has the length and the time of its last change that it had
-/// when it was found: once it has others, each read fails. A file is taken for the one that was
-/// found just where it has that one's length and time of last change, as far as the system tells
-/// it, and neither a read nor a rest changes what was found. It tells nothing of its bytes. The
-/// file stays open from a read to the next rest alone, so that there may be more sources than a
-/// process may have open files.
+/// A file of the system. Once its length or the time of its last change differs from what it was when the file was
+/// found, each read fails. A file counts as the one that was found if and only if it has the same length and the same
+/// time of last change, as far as the system gives these; neither `read_at` nor `rest` changes what was found. The
+/// source's bytes are unknown to contracts. The file is kept open only from a read to the next `rest`, so that there
+/// may be more sources than files that a process may have open.
 #[derive(Drop)]
 pub struct FileSource<'a, R: Files<File = File>> {
     files: &'a R,
@@ -25,17 +24,19 @@ pub struct FileSource<'a, R: Files<File = File>> {
     failures: Failures,
 }
 
-/// What the system says now of the file of that path.
+/// Returns what the system says now about the file with this path.
 fn metadata_of<R: Files<File = File>>(files: &R, path: &str) -> io::Result<Metadata> {
     File::open(files, path)?.metadata()
 }
 
 impl<'a, R: Files<File = File>> FileSource<'a, R> {
-    /// The file of that path.
+    /// Finds the file with this path, and notes its length and the time of its last change.
     ///
-    /// Refusal: `SourceFault` where it can't be opened now.
+    /// # Errors
+    ///
+    /// `SourceFault` if the file can't be opened now.
     pub fn open(files: &'a R, path: &'a str) -> Result<FileSource<'a, R>, SourceFault>
-        // A returned source is of the file with the path `path`, and its count of failures is 0.
+        // A returned source has the path `path`, and its count of failures is 0.
         ensures path { IfOk result (λ source. source.path.now ≡ path.now) }
         ensures fresh { IfOk result (λ source. source.failures ≡ 0) }
     {
@@ -52,7 +53,7 @@ impl<'a, R: Files<File = File>> FileSource<'a, R> {
         }
     }
 
-    /// The file that an earlier read kept, or the file of the path, opened again.
+    /// Returns the file that an earlier read kept open, or opens the file with the path again.
     fn take_file(&mut self) -> io::Result<File>
         ensures len { self.new.len ≡ self.old.len }
         ensures modified { self.new.modified ≡ self.old.modified }
@@ -64,15 +65,15 @@ impl<'a, R: Files<File = File>> FileSource<'a, R> {
         }
     }
 
-    /// Whether a file of that length, changed last at that time, is the one that was found, as far as these tell.
+    /// Returns whether a file of this length, last changed at this time, may be the one that was found.
     fn is_unchanged(&self, len: u64, modified: Option<SystemTime>) -> bool
         ensures same { IsTrue result ↔ ((len ≡ self.now.len) × (modified ≡ self.now.modified)) }
     {
         len == self.len && modified == self.modified
     }
 
-    /// Fills the slice, and keeps the file for the next read. A file that has changed by now is an error, also where
-    /// the range still lies within it.
+    /// Fills the slice, and keeps the file open for the next read. Fails if the file has changed, even if the range
+    /// still lies within it.
     fn read_and_keep(&mut self, at: u64, into: &mut [u8]) -> io::Result<()>
         ensures len { self.new.len ≡ self.old.len }
         ensures modified { self.new.modified ≡ self.old.modified }

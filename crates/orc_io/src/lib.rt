@@ -1,4 +1,4 @@
-//! Devices: where the bytes of files come from, and where they go to.
+//! Devices: sources, from which the bytes of files are read, and sinks, to which they are written.
 #![tactic(auto)]
 
 mod failures;

@@ -1,16 +1,16 @@
-//! Why the bytes of a range aren't answered.
+//! Why a range of a source can't be read.
 ghost use Rattle.std.specs.Prelude.{◌≡◌};
 ghost use Rattle.orc_io.specs.declared.range_fault.RangeFault.TheVariants as fault;
 
 use crate::source::SourceFault;
 use std::alloc::AllocError;
 
-/// Why the bytes of a range aren't answered.
+/// Why a range of a source can't be read.
 #[derive(Clone, Copy, Debug, PartialEq, Eq)]
 pub enum RangeFault {
-    /// The source failed.
+    /// A read of the source failed.
     SourceFailed,
-    /// There was no memory for them.
+    /// There was no memory for the bytes.
     OutOfMemory,
 }
 

@@ -1,4 +1,4 @@
-//! Ranges of a source.
+//! Reads ranges of a source.
 ghost use Rattle.std.specs.Prelude.{◌≡◌, ◌+◌, ◌≤◌, IfOk, IfSome, IsErrOf};
 ghost use Rattle.orc_io.specs.Devices.{bytes_at};
 ghost use Rattle.orc_io.specs.Ranges.{range_failures};
@@ -8,10 +8,13 @@ use crate::range_fault::RangeFault;
 use crate::source::Source;
 use std::alloc::Global;
 
-/// The `len` bytes from `at` on, read in one call; for no bytes the source isn't asked. That the range lies within
-/// the source is a condition, so no memory is taken for a length that wasn't compared with the source's.
+/// Reads the `len` bytes from `at` on, in one call of the source; in none if `len` is 0. The range must lie within the
+/// source, so no memory is taken for a length that wasn't compared with the source's.
 ///
-/// Refusals: `SourceFailed` where the source failed; `OutOfMemory`, and then the source wasn't asked.
+/// # Errors
+///
+/// - `SourceFailed` if the read of the source failed;
+/// - `OutOfMemory` if there is no memory for the bytes. The source wasn't read then.
 pub fn read_range<S: Source>(
     alloc: Global,
     source: &mut S,

@@ -1,11 +1,11 @@
-//! Bytes on their way out.
+//! Writes bytes to a sink, in as many calls as this takes.
 ghost use Rattle.std.specs.Prelude.{◌≡◌, ◌<◌, length, take, IfErr, OnOk};
 ghost use Rattle.orc_io.specs.Devices.{appended, failures_after};
 
 use crate::sink::Sink;
 
-/// Writes all the bytes, in as many calls as the sink wants. It stops at the first write that fails or takes
-/// nothing, and answers then how many bytes were taken by those before.
+/// Writes all bytes, in as many calls as the sink needs. Stops at the first write that fails or takes nothing; the
+/// error is then the number of bytes that the writes before it took.
 pub fn write_all<W: Sink>(out: &mut W, bytes: &[u8]) -> Result<(), usize>
     // If the call succeeds and the sink's bytes are known, then these bytes have grown by exactly `bytes`. Unknown
     // bytes stay unknown.

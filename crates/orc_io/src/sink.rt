@@ -1,22 +1,26 @@
-//! Where bytes are written to.
+//! The interface to which bytes are written.
 ghost use Rattle.std.specs.Prelude.{◌≡◌, ◌≤◌, ℕ, List, Option, length, take, IfOk};
 ghost use Rattle.orc_io.specs.Devices.{appended, taken_of, write_failures};
 
-/// A write failed, and took nothing.
+/// A write failed, and took no byte.
 #[derive(Clone, Copy, Debug, PartialEq, Eq)]
 pub struct SinkFault;
 
-/// An output of bytes. One that tells its bytes is bound by what it tells. The clauses tie the count of failures
-/// to the answers. That a refusal has a failure outside behind it no clause can say, so each `impl` has to be read
-/// for it.
+/// An output of bytes. If its bytes are known to contracts, what a write adds to them is promised byte by byte. The
+/// clauses tie the count of failures to the answers. No clause can say that an error comes from a failure outside of
+/// the program, so each `impl` has to be read for that.
 pub trait Sink {
-    /// The bytes that it has got, where the sink tells them.
+    /// The bytes that the sink has got, if they are known.
     ghost told: { Self → Option (List ℕ) };
 
-    /// How often a write has failed, or has taken nothing of some bytes.
+    /// How often a write has failed, or has taken nothing although there were bytes.
     ghost failures: { Self → ℕ };
 
-    /// Takes bytes from the front of the slice, and answers how many.
+    /// Takes bytes from the front of the slice, and returns how many.
+    ///
+    /// # Errors
+    ///
+    /// `SinkFault` if the write failed. No byte was taken then.
     fn write(&mut self, bytes: &[u8]) -> Result<usize, SinkFault>
         // A write takes at most as many bytes as `bytes` has.
         ensures bound { IfOk result (λ n. n ≤ length bytes.now) }

@@ -1,10 +1,10 @@
-//! A slice as a source.
+//! A slice of bytes as a source.
 ghost use Rattle.std.specs.Prelude.{◌≡◌, ◌+◌, ◌<◌, ◌≤◌, length, All, Some, Ok, OnOk};
 ghost use Rattle.orc_io.specs.Devices.{bytes_at};
 
 use crate::source::{Source, SourceFault};
 
-/// Bytes in memory. It tells them and never fails.
+/// Bytes in memory as a source. Its bytes are known to contracts, and no read fails.
 #[derive(Drop)]
 pub struct SliceSource<'a> {
     bytes: &'a [u8],
@@ -12,7 +12,7 @@ pub struct SliceSource<'a> {
 }
 
 impl<'a> SliceSource<'a> {
-    /// A source of these bytes.
+    /// Makes a source of these bytes.
     pub fn new(bytes: &'a [u8]) -> SliceSource<'a>
         // The bytes of the returned source are known, and they are `bytes`.
         ensures told { ⟦<SliceSource<'a> as Source>⟧.told result ≡ Some bytes.now }

@@ -1,30 +1,35 @@
-//! Where bytes are read from.
+//! The interface from which bytes are read.
 ghost use Rattle.std.specs.Prelude.{◌≡◌, ◌+◌, ◌<◌, ◌≤◌, ℕ, List, Option, length, All, IfSome, OnOk};
 ghost use Rattle.orc_io.specs.Devices.{bytes_at, failures_after};
 
-/// A read failed. The slice that was to be filled holds anything.
+/// A read failed. The slice that it should have filled may have any contents.
 #[derive(Clone, Copy, Debug, PartialEq, Eq)]
 pub struct SourceFault;
 
-/// Bytes that are read by ranges. A source that tells its bytes is bound by what it tells; of one that tells
-/// nothing only the length is known. The clauses tie the count of failures to the answers. That a refusal has a
-/// failure outside behind it no clause can say, so each `impl` has to be read for it.
+/// Bytes that are read in ranges. If they are known to contracts, what a read gives is promised byte by byte; if not,
+/// only their number is known. The clauses tie the count of failures to the answers. No clause can say that an error
+/// comes from a failure outside of the program, so each `impl` has to be read for that.
 pub trait Source {
-    /// How many bytes there are.
+    /// The number of bytes.
     ghost size: { Self → ℕ };
 
-    /// The bytes, where the source tells them.
+    /// The bytes, if they are known.
     ghost told: { Self → Option (List ℕ) };
 
     /// How often a read has failed.
     ghost failures: { Self → ℕ };
 
-    /// The number of bytes.
+    /// Returns the number of bytes.
     fn len(&self) -> u64
         // The answer is the number of bytes that the source has.
         ensures { result ≡ size self.now };
 
-    /// Fills the slice with the bytes from `at` on. Every refusal counts as a failure, and nothing else does.
+    /// Fills the slice with the bytes from `at` on. The range must lie within the source. Each error counts as a
+    /// failure, and nothing else does.
+    ///
+    /// # Errors
+    ///
+    /// `SourceFault` if the read failed. The slice may have any contents then.
     fn read_at(&mut self, at: u64, into: &mut [u8]) -> Result<(), SourceFault>
         requires { at + length into.old ≤ size self.old }
         // If the range lies within the source and the source's bytes are known, then a read that succeeds fills `into`
@@ -38,8 +43,8 @@ pub trait Source {
         // a read that succeeds leaves the count as it is.
         ensures failures { failures self.new ≡ failures_after result (failures self.old) };
 
-    /// Says that no read comes for now, so that what was kept for the next one can be given back. The next read is
-    /// answered as any other.
+    /// Tells the source that no read comes for now, so that it can release what it keeps for the next one, such as an
+    /// open file. Reads after this call work as any other.
     fn rest(&mut self)
         // `rest` changes neither the source's length nor what is known of its bytes.
         ensures size { size self.new ≡ size self.old }
@@ -47,10 +52,10 @@ pub trait Source {
         // `rest` doesn't change the source's count of failures.
         ensures failures { failures self.new ≡ failures self.old };
 
-    /// What is told is all of them.
+    /// If the bytes are known, there are as many as the source's length.
     ghost told_size: { (source : Self) → IfSome (told source) (λ bytes. length bytes ≡ size source) };
 
-    /// What is told is bytes.
+    /// Each of the known bytes is below 256.
     ghost told_bytes: { (source : Self) → IfSome (told source) (λ bytes. All (λ byte. byte < 256) bytes) };
 }
 

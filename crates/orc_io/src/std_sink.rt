@@ -7,8 +7,8 @@ use crate::failures::Failures;
 use crate::sink::{Sink, SinkFault};
 use std::io::Write;
 
-/// A writer. It tells nothing of its bytes as a sink, takes what the writer takes, and fails only where the
-/// writer fails or takes nothing. Nothing is tried again, and nothing is flushed.
+/// A writer as a sink. A write takes the bytes that the writer takes, and fails only if the writer fails. Nothing is
+/// tried again, and nothing is flushed. As a sink its bytes are unknown to contracts.
 #[derive(Drop)]
 pub struct StdSink<W: Write> {
     out: W,
@@ -16,7 +16,7 @@ pub struct StdSink<W: Write> {
 }
 
 impl<W: Write> StdSink<W> {
-    /// A sink over this writer.
+    /// Makes a sink that writes to this writer.
     pub fn new(out: W) -> StdSink<W>
         // The returned sink has the writer `out` as it was given, and a count of failures of 0.
         ensures out { result.out ≡ out }

@@ -6,8 +6,8 @@ use crate::failures::Failures;
 use crate::sink::{Sink, SinkFault};
 use std::alloc::Global;
 
-/// Bytes that are gathered in memory. It tells them, takes every slice whole, and fails only where its vector
-/// lacked the room and wasn't given it. Where the room is there, no write fails, and none gives room back.
+/// A sink that collects bytes in memory. They are known to contracts. A write takes the whole slice; it fails only if
+/// the vector's capacity doesn't suffice and there is no memory for more. No write lowers the capacity.
 #[derive(Drop)]
 pub struct VecSink {
     bytes: Vec<u8>,
@@ -15,7 +15,7 @@ pub struct VecSink {
 }
 
 impl VecSink {
-    /// A sink without bytes.
+    /// Makes a sink without bytes.
     pub fn new(alloc: Global) -> VecSink
         // The bytes of the returned sink are known and empty, and its count of failures is 0.
         ensures told { ⟦<VecSink as Sink>⟧.told result ≡ Some [] }
@@ -27,7 +27,7 @@ impl VecSink {
         }
     }
 
-    /// The bytes that it has got.
+    /// Returns the bytes that the sink has got.
     pub fn into_vec(self) -> Vec<u8>
         // The returned bytes are the bytes of the sink, which are known.
         ensures told { ⟦<VecSink as Sink>⟧.told self ≡ Some result.items }
