@@ -1,4 +1,5 @@
--- When a row more would pass a limit of a file, told by the rows pushed so far (limits: this project's).
+-- Whether a limit of a file would be exceeded with one row more, by the rows pushed so far (the limits are this
+-- project's).
 use Rattle.std.specs.Prelude.{◌≡◌, ℕ, ◌*◌, ◌<◌, ◌≤◌, ◌⊎◌, List, [], ◌∷◌, ◌++◌, length}
 use Rattle.orc_values.specs.Shapes.{Shape, width}
 use Rattle.orc_values.specs.Cells.{Cell}
@@ -7,8 +8,8 @@ use Rattle.orc_values.specs.Limits.{cell_limit}
 use Rattle.orc_row_batch.specs.declared.options.Options.{Options}
 use Rattle.orc_tail.specs.Stripes.{most_stripes, most_rows}
 
--- With this row behind those pushed a limit would be passed: of stripes, of a file's rows, or of a column's cells in the
--- stripe that is still open. The first of the rows pushed fill so many stripes; those behind them are fewer than one has.
+-- With `row` after the rows pushed a limit would be exceeded: of stripes, of a file's rows, or of a column's cells in
+-- the open stripe. The rows pushed fill `stripes` stripes; the rows after these, `kept`, are fewer than a stripe has.
 pub record PassesByRows (options : Options) (s : Shape) (rows : List Cell) (row : Cell) : Type 0 where
   pub stripes : ℕ
   pub written : List Cell

@@ -1,4 +1,4 @@
-//! Files that are written: rows to stripes, and a tail behind them.
+//! Writes files: rows to stripes, and a tail after them.
 #![tactic(auto)]
 
 mod writer;

@@ -19,29 +19,32 @@ use orc_values::Row;
 use orc_wire::{Items, StripeInfo};
 use std::alloc::Global;
 
-/// A writer of a file. Rows are pushed to it, and each stripe is written with its last row: it has as many
-/// rows as the options say, and the file's last stripe may have fewer.
+/// A writer of a file. Rows are pushed to it, and each stripe is written when its last row is pushed. A stripe has as
+/// many rows as the options say; the file's last stripe may have fewer.
+///
+/// Some errors leave the writer as it was. After any other error the writer has *failed*: it writes no more, and
+/// `push`, `push_owned` and `finish` answer `Failed`.
 #[derive(Drop)]
 pub struct Writer<W: Sink> {
     pub(crate) alloc: Global,
     pub(crate) schema: Schema,
     pub(crate) options: Options,
     pub(crate) out: W,
-    /// The stripes that are written.
+    /// The records of the stripes that are written.
     pub(crate) infos: Vec<StripeInfo>,
-    /// The statistics of their columns.
+    /// The statistics of the columns of each stripe that is written.
     pub(crate) stats: Vec<Items<Stat>>,
-    /// How many bytes the output has taken.
+    /// The number of bytes that the output has taken.
     pub(crate) written: u64,
-    /// How many rows were pushed.
+    /// The number of rows that were pushed.
     pub(crate) total: u64,
-    /// Those of the stripe that is still open, as columns.
+    /// The rows of the open stripe, as columns.
     pub(crate) batch: RowBatch,
-    /// How many cells each column has in them.
+    /// The number of cells of each column in the open stripe.
     pub(crate) counts: Vec<u64>,
-    /// Room for the counts with a row more.
+    /// Room for these numbers with one row more.
     pub(crate) sums: Vec<u64>,
-    /// The row that was given away last, for its room alone, or null where it was handed out again.
+    /// The row that was given to the writer last, kept for its memory alone; null if it was handed out again.
     pub(crate) spare: Row<'static>,
     pub(crate) failed: bool,
     ghost laid: { are_laid_with_few_rows 3 infos.items ≡ true },
@@ -63,8 +66,7 @@ pub struct Writer<W: Sink> {
 }
 
 impl<W: Sink> Writer<W> {
-    /// How many bytes the output has taken so far, also once the writer answers `Failed`. Where the output tells its
-    /// bytes, it is how many it has got since the writer was made.
+    /// Returns how many bytes the output has taken since the writer was made, even if the writer has failed.
     pub fn written(&self) -> u64
         // Returns the writer's count of the bytes that its output has taken.
         ensures { result ≡ self.now.written }

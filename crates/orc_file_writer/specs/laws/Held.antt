@@ -1,4 +1,4 @@
--- That a batch holds some rows has one proof at most, so that a value may keep it.
+-- That a batch holds some rows has at most one proof, so that a value may keep it.
 use Rattle.std.specs.Coded.{Unit-prop, ×_prop}
 use Rattle.std.specs.Prelude.{List, [], ◌∷◌}
 use Rattle.std.proofs.Props.{props}

@@ -1,4 +1,4 @@
-//! How many cells the columns of some rows have.
+//! Counts the cells that each column has in rows.
 ghost use Rattle.std.specs.Prelude.{◌≡◌, ◌+◌, ◌≤◌, ◌<◌, ◌^◌, ◌∷◌, [], true, false, length, map, replicate, IfOk};
 ghost use Rattle.std.specs.Bool.{OnTrue, OnFalse};
 ghost use Rattle.orc_values.specs.Shapes.{width, widths};
@@ -10,7 +10,7 @@ use orc_types::Schema;
 use orc_values::{CELL_LIMIT, Field, MapPair, Row, Tree, pairs_of, parts_of, width_of};
 use std::alloc::{AllocError, Global};
 
-/// One cell more, up to the limit.
+/// Counts one cell more, up to the limit.
 fn count_one(counts: &mut Vec<u64>, column: usize)
     requires { column < length counts.old.items }
     ensures { CountsOne column counts.old.items counts.new.items }
@@ -20,7 +20,8 @@ fn count_one(counts: &mut Vec<u64>, column: usize)
     }
 }
 
-/// Counts a cell of a type, whose columns begin at `column`, and all that is in it. Answers the column that comes next.
+/// Counts a cell of the type `tree`, whose columns begin at `column`, and all cells within it. Returns the column after
+/// those of `tree`.
 #[cycle(counting)]
 fn count_cell(tree: &Tree, cell: &Row<'_>, column: usize, counts: &mut Vec<u64>) -> usize
     requires { column + width (shape tree.now) ≤ length counts.old.items }
@@ -80,7 +81,7 @@ fn count_values(value: &Tree, pairs: &[MapPair<'_>], column: usize, counts: &mut
     column + width_of(value)
 }
 
-/// Counts the fields of a struct, of which a null struct has none.
+/// Counts the fields of a struct. A null struct has none.
 #[cycle(counting)]
 fn count_fields(fields: &[Field], parts: &[Row<'_>], column: usize, counts: &mut Vec<u64>) -> usize
     requires { column + widths (fields_view fields.now) ≤ length counts.old.items }
@@ -97,7 +98,7 @@ fn count_fields(fields: &[Field], parts: &[Row<'_>], column: usize, counts: &mut
     next
 }
 
-/// The counts with a row more, up to the limit, in `sums`, and whether all are below it.
+/// Puts the counts with one row more, up to the limit, into `sums`. Returns whether all are below the limit.
 pub(crate) fn count_row(schema: &Schema, row: &Row<'_>, counts: &[u64], sums: &mut Vec<u64>) -> bool
     requires wide { length counts.now ≡ width schema.now }
     requires room { length sums.old.items ≡ width schema.now }
@@ -111,14 +112,14 @@ pub(crate) fn count_row(schema: &Schema, row: &Row<'_>, counts: &[u64], sums: &m
     sums.iter().all(|count| *count < CELL_LIMIT)
 }
 
-/// No cells yet, of each column.
+/// Makes counts of no cells for each column.
 pub(crate) fn no_cells(alloc: Global, width: usize) -> Result<Vec<u64>, AllocError>
     ensures { IfOk result (λ counts. counts.items ≡ replicate width 0) }
 {
     vec![in alloc; 0u64; width]
 }
 
-/// No cells any more, of each column.
+/// Sets the count of each column to 0.
 pub(crate) fn reset(counts: &mut Vec<u64>)
     ensures { counts.new.items ≡ replicate (length counts.old.items) 0 }
 {

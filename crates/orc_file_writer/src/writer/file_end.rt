@@ -1,4 +1,4 @@
-//! The end of a file that is written.
+//! Writes the end of a file.
 ghost use Rattle.std.specs.Prelude.{◌≡◌, ◌<◌, ◌≤◌, ◌^◌, ◌⊎◌, ℕ, true, take, length, IfOk, IfErr, OnOk, OnErr};
 ghost use Rattle.orc_types.specs.Schemas.{IsSchema};
 ghost use Rattle.orc_io.specs.Devices.{appended};
@@ -27,16 +27,16 @@ fn version(alloc: Global, rle: Rle) -> Result<Vec<u32>, AllocError>
     }
 }
 
-/// The stripes that are written, and the statistics of their columns.
+/// The records of the written stripes, and the statistics of their columns.
 #[derive(Drop)]
 pub(crate) struct Stripes {
     pub infos: Vec<StripeInfo>,
     pub stats: Vec<Items<Stat>>,
-    /// How many rows they have together.
+    /// The number of rows of all stripes together.
     pub rows: u64,
 }
 
-/// The tail behind stripes.
+/// Makes the tail of a file with these stripes.
 fn tail_of(
     alloc: Global,
     options: Options,
@@ -53,7 +53,7 @@ fn tail_of(
     let Stripes { infos, stats, rows } = stripes;
     let file_stats = match file_statistics(alloc, &schema, &stats) {
         Ok(file_stats) => file_stats,
-        // so many stripes have fewer than 2^48 values
+        // 65,536 stripes of fewer than 2^31 values have fewer than 2^48 together
         Err(_) => return Err(FileFault::OutOfMemory),
     };
     Ok(Tail {
@@ -71,7 +71,7 @@ fn tail_of(
     })
 }
 
-/// Writes the tail of a file with these stripes, and answers it.
+/// Writes the tail of a file with these stripes, and returns it.
 pub(crate) fn end_file<W: Sink>(
     alloc: Global,
     options: Options,

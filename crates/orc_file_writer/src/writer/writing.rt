@@ -1,4 +1,4 @@
-//! Rows to a file.
+//! From rows to a file.
 ghost use Rattle.std.specs.Prelude.{◌≡◌, ◌+◌, ◌<◌, ◌≤◌, ◌⊎◌, ◌↔◌, ◌++◌, ◌∷◌, [], ℕ, List, Option, length, get_or, map, true, false, IfOk, IfErr, OnOk, OnErr, IsErrOf, MatchResult};
 ghost use Rattle.orc_rle.specs.declared.sign.Rle.{Rle};
 ghost use Rattle.orc_wire.specs.declared.stripe_info.StripeInfo.{StripeInfo};
@@ -35,9 +35,11 @@ use std::alloc::Global;
 use std::mem::swap;
 
 impl<W: Sink> Writer<W> {
-    /// A writer of a file of this schema, without rows yet. It has written `ORC`.
+    /// Makes a writer of a file of this schema, without rows yet. It writes `ORC`.
     ///
-    /// Refusals: `WriteFailed` and `OutOfMemory`. They hand the output back.
+    /// # Errors
+    ///
+    /// `WriteFailed` if a write to the output fails, and `OutOfMemory` if there is no memory. Each returns the output.
     pub fn new(
         alloc: Global,
         schema: Schema,
@@ -95,7 +97,7 @@ impl<W: Sink> Writer<W> {
         }
     }
 
-    /// The kept rows as a stripe at its place in the file.
+    /// Makes a stripe of the rows of the open stripe, at its place in the file.
     fn stripe_of(&self) -> Result<StripeOut, FileFault>
         requires open { self.now.failed ≡ false }
         ensures stripe { IfOk result
@@ -130,7 +132,7 @@ impl<W: Sink> Writer<W> {
         })
     }
 
-    /// Writes a stripe of the kept rows. After a refusal the writer has failed.
+    /// Writes a stripe of the rows of the open stripe. If this fails, the writer has failed.
     fn send(&mut self, stripe: StripeOut) -> Result<(), FileFault>
         requires open { self.old.failed ≡ false }
         requires begun { 0 < length (kept_rows self.old.schema self.old.batch) }
@@ -187,7 +189,7 @@ impl<W: Sink> Writer<W> {
         Ok(())
     }
 
-    /// Writes the kept rows, of which there is one at least, as a stripe. After a refusal the writer has
+    /// Writes the rows of the open stripe, of which there is at least one, as a stripe. If this fails, the writer has
     /// failed.
     fn close(&mut self) -> Result<(), FileFault>
         requires open { self.old.failed ≡ false }
@@ -228,7 +230,7 @@ impl<W: Sink> Writer<W> {
         }
     }
 
-    /// Whether a row may be pushed. Then `sums` has the counts with it.
+    /// Tests whether a row may be pushed. If it may, `sums` has the counts of cells with this row.
     fn admit(&mut self, row: &Row<'_>) -> Result<(), FileFault>
         ensures open { OnOk result (self.old.failed ≡ false) }
         ensures schema { IsSchema self.old.schema }
@@ -269,7 +271,7 @@ impl<W: Sink> Writer<W> {
         Ok(())
     }
 
-    /// Keeps a row that was admitted. After a refusal the writer has failed.
+    /// Keeps a row that was admitted. If this fails, the writer has failed.
     fn keep(&mut self, row: &Row<'_>) -> Result<(), FileFault>
         requires open { self.old.failed ≡ false }
         requires fits { fitting.fits (view row.now) self.old.schema ≡ true }
@@ -289,7 +291,7 @@ impl<W: Sink> Writer<W> {
     {
         let kept = self.batch.len() as u64;
         let Ok(()) = self.batch.push(self.schema.tree(), row) else {
-            // a part of the row may stand in the batch
+            // the batch may have a part of the row
             self.batch.clear();
             reset(&mut self.counts);
             self.total -= kept;
@@ -301,7 +303,7 @@ impl<W: Sink> Writer<W> {
         Ok(())
     }
 
-    /// Adds a row that was admitted, and writes the stripe that it fills. After a refusal the writer has failed.
+    /// Adds a row that was admitted, and writes the stripe if this row fills it. If this fails, the writer has failed.
     fn add(&mut self, row: &Row<'_>) -> Result<(), FileFault>
         requires open { self.old.failed ≡ false }
         requires schema { IsSchema self.old.schema }
@@ -341,32 +343,31 @@ impl<W: Sink> Writer<W> {
         Ok(())
     }
 
-    /// Adds a row as `push` does, and takes it: `spare_row` hands it out again, for its room.
+    /// Adds a row as `push` does, and takes it. `spare_row` hands it out again, so that its memory can be used for the
+    /// next row.
     ///
-    /// Refusals: `Failed`, where an earlier call failed; `RowShape` where the row doesn't fit the schema, and
-    /// `Limit` where a limit of stripes, of rows or of a column's cells would be passed, which leave the
-    /// writer as it was; `WriteFailed`, `OutOfMemory`, and `Limit` where the file's stripes would have too
-    /// many bytes, after which the writer has failed: what was written then is the front of a file of some
-    /// of the rows pushed, this one among them.
+    /// # Errors
+    ///
+    /// Those of `push`.
     pub fn push_owned(&mut self, row: Row<'static>) -> Result<(), FileFault>
-        // If the push succeeds, then the rows pushed are those pushed before, followed by `row`. The output has
-        // got exactly the full stripes of these rows if its bytes are known, and the writer keeps the other
-        // rows.
+        // If a list of rows has been pushed to the writer and this push succeeds, then the list with `row` added at its
+        // end has been pushed: if the output's bytes are known, it has got exactly `ORC` and the full stripes of these
+        // rows since the writer was made, and the writer keeps the rows after these stripes.
         ensures pushed { AddsRow (progress W.told self.old) (progress W.told self.new) (view row.entry) result }
-        // The writer keeps its schema and its options. An error is `Failed`, `RowShape`, `Limit`, `WriteFailed`
-        // or `OutOfMemory`. `Failed` comes if and only if an earlier call failed. If none failed, `RowShape`
-        // comes if and only if `row` doesn't fit the schema. If none failed, `row` fits, and with `row` a limit
-        // of stripes, of rows or of a column's cells in a stripe would be passed, the error is `Limit` and the
-        // writer has not failed. By the writer's counts such a limit would be passed if and only if it would by
-        // the rows pushed. `Limit` without the writer having failed comes only if such a limit would be passed.
-        // `Limit` after which the writer has failed comes only if `row` fills the open stripe and with this
-        // stripe the file's stripes would have more than 2^40 bytes. The writer has failed after `WriteFailed`,
-        // after `OutOfMemory` and if an earlier call failed; it has not failed after a success or `RowShape`.
-        // After an error by which the writer did not fail, its output, stripes, statistics, rows and counts are
-        // unchanged. If the writer fails by this push and the output's bytes are known, the output has got a
-        // prefix of a file of the first n of the rows pushed, `row` included, for some n. If the writer counted
-        // as many bytes as the output had got, it still does. The output's count of failures rises with
-        // `WriteFailed`, and stays the same otherwise.
+        // The writer keeps its schema and its options. An error is `Failed`, `RowShape`, `Limit`, `WriteFailed` or
+        // `OutOfMemory`. `Failed` comes if and only if the writer had failed before this push. If it had not failed,
+        // `RowShape` comes if and only if `row` doesn't fit the schema. If it had not failed, `row` fits, and with
+        // `row` a limit of stripes, of rows or of a column's cells in a stripe would be exceeded, then the error is
+        // `Limit` and the writer has not failed. If a list of rows has been pushed to the writer, then by its counts
+        // such a limit would be exceeded if and only if it would by these rows. `Limit` without the writer having
+        // failed comes only if such a limit would be exceeded. `Limit` after which the writer has failed comes only if
+        // `row` fills the open stripe and with this stripe the file's stripes would have more than 2^40 bytes. The
+        // writer has failed after `WriteFailed`, after `OutOfMemory`, and if it had failed before; it has not failed
+        // after a success or `RowShape`. After an error by which the writer did not fail, its output, stripes,
+        // statistics, rows and counts are unchanged. If a list of rows has been pushed to the writer, the writer fails
+        // by this push and the output's bytes are known, then the output has got a prefix of a file of the first n rows
+        // of the list with `row` at its end, for some n. If the writer counted as many bytes as the output had got, it
+        // still does. The output's count of failures rises with `WriteFailed`, and stays the same otherwise.
         ensures takes { TakesRow W.told W.failures self.old self.new (view row.entry) result }
     {
         let pushed = self.push(&row);
@@ -374,41 +375,50 @@ impl<W: Sink> Writer<W> {
         pushed
     }
 
-    /// Adds a row. The writer keeps what the columns say of it, so the row itself stays the caller's. With the last row of
-    /// a stripe the stripe is written.
+    /// Adds a row. The writer copies its cells, so the row itself stays the caller's. If the row is the last one of a
+    /// stripe, the stripe is written.
     ///
-    /// Refusals: `Failed`, where an earlier call failed; `RowShape` where the row doesn't fit the schema, and
-    /// `Limit` where a limit of stripes, of rows or of a column's cells would be passed, which leave the
-    /// writer as it was; `WriteFailed`, `OutOfMemory`, and `Limit` where the file's stripes would have too
-    /// many bytes, after which the writer has failed: what was written then is the front of a file of some
-    /// of the rows pushed, this one among them.
+    /// # Errors
+    ///
+    /// These leave the writer as it was:
+    ///
+    /// - `Failed` if the writer failed in an earlier call;
+    /// - `RowShape` if the row doesn't fit the schema;
+    /// - `Limit` if a limit of stripes, of rows or of a column's cells in a stripe would be exceeded.
+    ///
+    /// After these the writer has failed, and the output has got a prefix of a file of the first n of the rows pushed,
+    /// this row included, for some n:
+    ///
+    /// - `Limit` if the file's stripes would have too many bytes;
+    /// - `WriteFailed` if a write to the output fails;
+    /// - `OutOfMemory` if there is no memory.
     pub fn push(&mut self, row: &Row<'_>) -> Result<(), FileFault>
-        // If the push succeeds, then the rows pushed are those pushed before, followed by `row`. The output has
-        // got exactly the full stripes of these rows if its bytes are known, and the writer keeps the other
-        // rows.
+        // If a list of rows has been pushed to the writer and this push succeeds, then the list with `row` added at its
+        // end has been pushed: if the output's bytes are known, it has got exactly `ORC` and the full stripes of these
+        // rows since the writer was made, and the writer keeps the rows after these stripes.
         ensures pushed { AddsRow (progress W.told self.old) (progress W.told self.new) (view row.now) result }
-        // The writer keeps its schema and its options. An error is `Failed`, `RowShape`, `Limit`, `WriteFailed`
-        // or `OutOfMemory`. `Failed` comes if and only if an earlier call failed. If none failed, `RowShape`
-        // comes if and only if `row` doesn't fit the schema. If none failed, `row` fits, and with `row` a limit
-        // of stripes, of rows or of a column's cells in a stripe would be passed, the error is `Limit` and the
-        // writer has not failed. By the writer's counts such a limit would be passed if and only if it would by
-        // the rows pushed. `Limit` without the writer having failed comes only if such a limit would be passed.
-        // `Limit` after which the writer has failed comes only if `row` fills the open stripe and with this
-        // stripe the file's stripes would have more than 2^40 bytes. The writer has failed after `WriteFailed`,
-        // after `OutOfMemory` and if an earlier call failed; it has not failed after a success or `RowShape`.
-        // After an error by which the writer did not fail, its output, stripes, statistics, rows and counts are
-        // unchanged. If the writer fails by this push and the output's bytes are known, the output has got a
-        // prefix of a file of the first n of the rows pushed, `row` included, for some n. If the writer counted
-        // as many bytes as the output had got, it still does. The output's count of failures rises with
-        // `WriteFailed`, and stays the same otherwise.
+        // The writer keeps its schema and its options. An error is `Failed`, `RowShape`, `Limit`, `WriteFailed` or
+        // `OutOfMemory`. `Failed` comes if and only if the writer had failed before this push. If it had not failed,
+        // `RowShape` comes if and only if `row` doesn't fit the schema. If it had not failed, `row` fits, and with
+        // `row` a limit of stripes, of rows or of a column's cells in a stripe would be exceeded, then the error is
+        // `Limit` and the writer has not failed. If a list of rows has been pushed to the writer, then by its counts
+        // such a limit would be exceeded if and only if it would by these rows. `Limit` without the writer having
+        // failed comes only if such a limit would be exceeded. `Limit` after which the writer has failed comes only if
+        // `row` fills the open stripe and with this stripe the file's stripes would have more than 2^40 bytes. The
+        // writer has failed after `WriteFailed`, after `OutOfMemory`, and if it had failed before; it has not failed
+        // after a success or `RowShape`. After an error by which the writer did not fail, its output, stripes,
+        // statistics, rows and counts are unchanged. If a list of rows has been pushed to the writer, the writer fails
+        // by this push and the output's bytes are known, then the output has got a prefix of a file of the first n rows
+        // of the list with `row` at its end, for some n. If the writer counted as many bytes as the output had got, it
+        // still does. The output's count of failures rises with `WriteFailed`, and stays the same otherwise.
         ensures takes { TakesRow W.told W.failures self.old self.new (view row.now) result }
     {
         self.admit(row)?;
         self.add(row)
     }
 
-    /// The row that was given away last, for its room alone, or null where there was none since the last call: whatever
-    /// it says is no longer needed.
+    /// Returns the row that was given to the writer last, so that its memory can be used again; null if there was none
+    /// since the last call. Its contents are no longer needed.
     pub fn spare_row(&mut self) -> Row<'static>
         // What the writer has written, kept and counted is unchanged: its output, its stripes and their
         // statistics, the rows of the open stripe, the counts of bytes, rows and cells, and whether it has
@@ -425,7 +435,7 @@ impl<W: Sink> Writer<W> {
         self.spare.take()
     }
 
-    /// The schema of its rows.
+    /// Returns the schema of the rows.
     pub fn schema(&self) -> &Schema
         // Returns the writer's schema.
         ensures { result.now ≡ self.now.schema }
@@ -433,7 +443,7 @@ impl<W: Sink> Writer<W> {
         &self.schema
     }
 
-    /// The output as it stands. The rows that are kept aren't written, nor is a tail.
+    /// Returns the output as it is. The rows of the open stripe aren't written, nor is a tail.
     pub fn into_out(self) -> W
         // Returns the writer's output as it is.
         ensures { result ≡ self.out }
@@ -441,7 +451,7 @@ impl<W: Sink> Writer<W> {
         self.out
     }
 
-    /// Writes what is kept as the file's last stripe, where a row is.
+    /// Writes the rows of the open stripe, if there are any, as the file's last stripe.
     fn close_rest(&mut self) -> Result<(), FileFault>
         requires open { self.old.failed ≡ false }
         ensures last { (first : Option (List ℕ)) (rows : List Cell)
@@ -469,20 +479,26 @@ impl<W: Sink> Writer<W> {
         self.close()
     }
 
-    /// Writes the last stripe, where a row is kept, and the tail. The output comes back with the tail, or
-    /// with a refusal.
+    /// Writes the last stripe, if rows are left for it, and the tail. Returns the tail and the output.
     ///
-    /// Refusals: `Failed`, where an earlier call failed; `WriteFailed`, `OutOfMemory`, and `Limit` where the
-    /// file's stripes would have too many bytes.
+    /// # Errors
+    ///
+    /// Each returns the output:
+    ///
+    /// - `Failed` if the writer failed in an earlier call;
+    /// - `Limit` if the file's stripes would have too many bytes;
+    /// - `WriteFailed` if a write to the output fails;
+    /// - `OutOfMemory` if there is no memory.
     pub fn finish(self) -> Result<(Tail, W), (FileFault, W)>
-        // If the call succeeds and the output's bytes are known, then the output has got the file that is
-        // written of the rows pushed, and this file's tail is returned. The file has fewer than 2^64 bytes.
+        // If a list of rows has been pushed to the writer, the call succeeds and the output's bytes are known, then the
+        // output has got the file that is written of these rows, and this file's tail is returned. The file has fewer
+        // than 2^64 bytes.
         ensures whole { (first : Option (List ℕ)) (rows : List Cell)
             → HasPushed (progress W.told self) first rows
             → IfOk result (λ done. WroteWholeFile self.options self.schema done.0 first (W.told done.1) rows) }
 
-        // The error is `Failed` if and only if an earlier call failed, and with it the output is returned
-        // unchanged.
+        // The error is `Failed` if and only if the writer had failed in an earlier call, and with it the output is
+        // returned unchanged.
         ensures failed { IfErr result (λ e. e.0 ≡ fault.Failed → self.failed ≡ true) }
         ensures stands { self.failed ≡ true → MatchResult result (λ _. ⊥)
             (λ e. (e.0 ≡ fault.Failed) × (e.1 ≡ self.out)) }
@@ -494,8 +510,8 @@ impl<W: Sink> Writer<W> {
         // An error is `Failed`, `Limit`, `WriteFailed` or `OutOfMemory`.
         ensures refused { IfErr result (λ e. (e.0 ≡ fault.Failed)
             ⊎ ((e.0 ≡ fault.Limit) ⊎ ((e.0 ≡ fault.WriteFailed) ⊎ (e.0 ≡ fault.OutOfMemory)))) }
-        // If the call fails, no earlier call failed and the output's bytes are known, then the output has got a
-        // prefix of a file of the first n rows pushed, for some n.
+        // If a list of rows has been pushed to the writer, the writer had not failed, the call fails and the output's
+        // bytes are known, then the output has got a prefix of a file of the first n rows of the list, for some n.
         ensures cut { (first : Option (List ℕ)) (rows : List Cell)
             → HasPushed (progress W.told self) first rows
             → self.failed ≡ false
