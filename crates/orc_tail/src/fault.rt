@@ -83,8 +83,7 @@ impl<T: Drop> From<AllocFailed<T>> for FileFault {
 
 /// Returns the file's fault for a fault of its stripe with this number.
 pub fn stripe_fault(number: usize, cause: StripeFault) -> FileFault
-    // If `cause` is `OutOfMemory`, then the answer is `OutOfMemory`. If `cause` is any other fault, the answer is
-    // `Stripe` with `number` and `cause`.
+    // The answer is `OutOfMemory` if `cause` is `OutOfMemory`, and otherwise `Stripe` with `number` and `cause`.
     ensures { ((cause ≡ stripe.OutOfMemory) × (result ≡ fault.OutOfMemory))
         ⊎ ((cause ≢ stripe.OutOfMemory) × (result ≡ fault.Stripe number cause)) }
 {
