@@ -18,7 +18,7 @@ use Rattle.orc_tail.specs.declared.tail.Tail.{Tail}
 use Rattle.orc_tail.specs.declared.fault.FileFault.{FileFault}
 use Rattle.orc_tail.specs.declared.fault.FileFault.TheVariants.{Stripe}
 
--- the stripe of a file with this number, with these bytes and this footer
+-- stripe n of a file, opened with these bytes and this footer
 abbrev pub opened_stripe : Tail → ℕ → List ℕ → StripeFooter → Opened
 opened_stripe tail n bytes footer =
     record {
@@ -41,42 +41,43 @@ AreOfStripes s bytes (info ∷ infos) (rows ∷ parts) = IsStripe s info (stripe
 abbrev pub rows_together : List (List Cell) → List Cell
 rows_together parts = flat_map (λ p. p) parts
 
--- the stripes' rows joined
+-- these rows are those of the stripes, joined in order
 pub record HasRows (s : Shape) (bytes : List ℕ) (infos : List StripeInfo) (rows : List Cell) : Type 0 where
   pub parts : List (List Cell)
   pub stripes : AreOfStripes s bytes infos parts
   pub rows_are : rows ≡ rows_together parts
 
--- The bytes have this tail, and these are the rows of the stripes that it names.
+-- The bytes have this tail, and these are the rows of the stripes that the tail names.
 pub record FileIs (bytes : List ℕ) (tail : Tail) (rows : List Cell) : Type 0 where
   pub tail_is : IsTail bytes tail
   pub has_rows : HasRows tail.schema bytes tail.stripes rows
 
--- Why bytes are no stripe: the directory isn't accepted, or by the footer that is there they spell no rows.
+-- Why bytes are no stripe with any rows: they aren't opened as this stripe, or they have a footer and the columns'
+-- streams don't spell as many rows as the stripe's record says.
 pub record IsNoStripe (s : Shape) (info : StripeInfo) (bytes : List ℕ) (why : StripeFault) : Type 0 where
   pub none : (rows : List Cell) → IsStripe s info bytes rows → ⊥
   pub reason : StripeOpenFault s info bytes why ⊎ ((footer : StripeFooter) × HasFooter s info bytes footer
       × RowsFault s (columns_of footer bytes) info.number_of_rows why)
 
--- this is refused of the stripe with this number
+-- why stripe n has no rows, as a fault of the file; want of memory is no such reason
 abbrev pub StripeRefused : Shape → List ℕ → ℕ → StripeInfo → FileFault → Type 0
 StripeRefused s bytes n info fault =
     (why : StripeFault) × (fault ≡ Stripe n why) × (why ≢ stripe.OutOfMemory)
     × IsNoStripe s info (stripe_bytes info bytes) why
 
--- The first stripe that has no rows, and why: those before it have some. The first one here has number n.
+-- The fault of the first stripe that has no rows: the stripes before it have rows. The first stripe here has number n.
 abbrev pub FirstRefused : Shape → List ℕ → ℕ → List StripeInfo → FileFault → Type 0
 FirstRefused s bytes n [] fault = ⊥
 FirstRefused s bytes n (info ∷ infos) fault =
     StripeRefused s bytes n info fault
     ⊎ ((rows : List Cell) × IsStripe s info (stripe_bytes info bytes) rows × FirstRefused s bytes (n + 1) infos fault)
 
--- rows with those of a stripe behind them
+-- `after` are the rows `before`, followed by the rows of a stripe
 abbrev pub HasMore : Shape → StripeInfo → List ℕ → List Cell → List Cell → Type 0
 HasMore s info bytes before after = (rows : List Cell) × IsStripe s info (stripe_bytes info bytes) rows
     × (after ≡ before ++ rows)
 
--- a file's rows, cut into those of its stripes by the stripes' numbers of rows
+-- rows, cut into one part for each stripe by the stripes' numbers of rows
 abbrev pub cut_rows : List StripeInfo → List Cell → List (List Cell)
 cut_rows [] rows = []
 cut_rows (info ∷ infos) rows = take info.number_of_rows rows ∷ cut_rows infos (drop info.number_of_rows rows)

@@ -1,5 +1,5 @@
--- A cap on what is read at once: a stripe's three parts have no more bytes together than it says. The ORC
--- specification has no such limit: it is this project's, for whoever reads files of strangers.
+-- A cap on the length of a stripe: its three parts have at most `cap` bytes together. The ORC specification has no such
+-- limit: it is this project's, for programs that read files of strangers.
 use Rattle.std.specs.Prelude.{◌≡◌, ℕ, ◌+◌, ◌<◌, ◌≤◌, List, [], ◌∷◌, ◌⊎◌}
 use Rattle.std.specs.List.{AllByRecursion}
 use Rattle.orc_wire.specs.declared.stripe_info.StripeInfo.{StripeInfo}
@@ -15,13 +15,13 @@ use Rattle.orc_tail.specs.declared.fault.FileFault.TheVariants.{Limit}
 abbrev pub AllWithin : ℕ → List StripeInfo → Type 0
 AllWithin cap infos = AllByRecursion (λ info. stripe_length info ≤ cap) infos
 
--- the stripe with this number is refused: it is longer than the cap, or it isn't and has no rows
+-- the fault of stripe n: `Limit` if it is longer than the cap, else the reason why it has no rows
 abbrev pub CappedRefused : ℕ → Shape → List ℕ → ℕ → StripeInfo → FileFault → Type 0
 CappedRefused cap s bytes n info fault =
     ((cap < stripe_length info) × (fault ≡ Limit)) ⊎ ((stripe_length info ≤ cap) × StripeRefused s bytes n info fault)
 
--- The first stripe that is refused, and why: those before it are no longer than the cap and have rows. The first
--- one here has number n.
+-- The fault of the first stripe that is longer than the cap or has no rows: the stripes before it are no longer than
+-- the cap and have rows. The first stripe here has number n.
 abbrev pub FirstCapped : ℕ → Shape → List ℕ → ℕ → List StripeInfo → FileFault → Type 0
 FirstCapped cap s bytes n [] fault = ⊥
 FirstCapped cap s bytes n (info ∷ infos) fault =

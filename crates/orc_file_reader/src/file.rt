@@ -19,17 +19,20 @@ use std::alloc::Global;
 pub struct OrcFile<S: Source> {
     pub(crate) source: S,
     pub(crate) tail: Tail,
-    /// How many bytes are read at once: the tail's three parts, or a stripe's three, have no more together.
+    /// The cap: the tail's three parts have at most so many bytes together, and so has each stripe that is read.
     pub(crate) cap: u64,
     ghost within: { AllBefore (S.size source) tail.stripes } by { Prim.hlevel props },
     ghost bytes: { stripes_length tail.stripes ≤ most_bytes },
 }
 
 impl<S: Source> OrcFile<S> {
-    /// The file with these bytes. A refusal hands the source back.
+    /// Opens a file: reads its tail (ORC specification, "File Tail").
     ///
-    /// The tests come in this order, and the fault is the first one's that fails: both ends and the postscript, the
-    /// footer, the metadata, the limits and the stripes' places. `SourceFailed` and `OutOfMemory` may come instead.
+    /// # Errors
+    ///
+    /// The fault of the first test that the file fails, in this order: the tests of both ends and of the postscript, of
+    /// the footer, of the metadata, of the limits and of the stripes' places. Or `SourceFailed` if a read fails, and
+    /// `OutOfMemory` if there is no memory. Each error returns the source.
     pub fn open(alloc: Global, source: S) -> Result<OrcFile<S>, (FileFault, S)>
         // If the file is opened and the source's bytes are known, then the opened file's tail is the tail of
         // these bytes.
@@ -59,12 +62,13 @@ impl<S: Source> OrcFile<S> {
         OrcFile::open_capped(alloc, source, u64::MAX)
     }
 
-    /// The file with these bytes, of which no more than the cap are read at once: for whoever reads files of
-    /// strangers. A refusal hands the source back.
+    /// Opens a file with a cap: for programs that read files of strangers. The parts of the tail must have at most
+    /// `cap` bytes together, and `load` and `rows` fail with `Limit` at a stripe of more bytes.
     ///
-    /// The tests and the refusals are those of `open`, and one more stands between the ends' and the footer's, before
-    /// footer and metadata are read: `Limit` where metadata, footer and postscript have together more bytes than the
-    /// cap says. On the file `load` and `rows` answer `Limit` for a stripe of more bytes.
+    /// # Errors
+    ///
+    /// Those of `open`, and `Limit` if metadata, footer and postscript have more than `cap` bytes together. This is
+    /// tested after both ends and the postscript, before footer and metadata are read. Each error returns the source.
     pub fn open_capped(alloc: Global, source: S, cap: u64) -> Result<OrcFile<S>, (FileFault, S)>
         // `source` has at most 2^64 - 1 bytes.
         ensures sized { S.size source ≤ no_cap }
@@ -102,7 +106,7 @@ impl<S: Source> OrcFile<S> {
         }
     }
 
-    /// What the file says of itself.
+    /// Returns the tail.
     pub fn tail(&self) -> &Tail
         // Returns the file's tail.
         ensures { result.now ≡ self.now.tail }
@@ -110,7 +114,7 @@ impl<S: Source> OrcFile<S> {
         &self.tail
     }
 
-    /// The columns.
+    /// Returns the schema, which has the types of the columns.
     pub fn schema(&self) -> &Schema
         // Returns the schema of the file's tail.
         ensures { result.now ≡ self.now.tail.schema }
@@ -118,7 +122,7 @@ impl<S: Source> OrcFile<S> {
         &self.tail.schema
     }
 
-    /// The tail, and the source back.
+    /// Returns the tail and the source.
     pub fn into_parts(self) -> (Tail, S)
         // Returns the file's tail and its source.
         ensures { (result.0 ≡ self.tail) × (result.1 ≡ self.source) }

@@ -1,4 +1,4 @@
-//! Files that are read: their rows, stripe by stripe. What a file says of itself stands in `orc_tail`.
+//! Reads files: their rows, stripe by stripe. `orc_tail` reads the tail.
 #![tactic(auto)]
 
 mod file;

@@ -1,4 +1,4 @@
-//! A stripe's bytes, read in one call, the view of them, and their rows.
+//! Loads the bytes of a stripe, and makes views and rows of them.
 ghost use Rattle.std.specs.Prelude.{◌≡◌, ◌≢◌, ◌<◌, ◌≤◌, ◌^◌, ◌⊎◌, length, false, Err, OnOk, IfOk, IfErr, vec_capacity};
 ghost use Rattle.std.specs.Bool.{OnTrue, OnFalse};
 ghost use Rattle.orc_column_reader.specs.Stripe.{IsStripe};
@@ -18,10 +18,13 @@ use orc_tail::{FileFault, Tail, stripe_fault, stripe_length};
 use orc_values::Row;
 use std::alloc::Global;
 
-/// Fills the vector with the bytes of the stripe with this number, which are read in one call; of a stripe without
-/// bytes nothing is asked. After a refusal the vector holds anything.
+/// Fills the vector with the bytes of stripe `number`, which are read in one call of the source; in none if the stripe
+/// has no bytes. The tail must have this stripe, and its stripes must end within the source and have at most 2^40 bytes
+/// together.
 ///
-/// Refusals: `SourceFailed` where the source failed; `OutOfMemory`.
+/// # Errors
+///
+/// `SourceFailed` if the read fails, and `OutOfMemory` if there is no memory. The vector may have any contents then.
 pub fn load_stripe<S: Source>(
     source: &mut S,
     tail: &Tail,
@@ -31,13 +34,15 @@ pub fn load_stripe<S: Source>(
     requires there { number < length tail.now.stripes }
     requires within { AllBefore (S.size source.old) tail.now.stripes }
     requires most { stripes_length tail.now.stripes ≤ most_bytes }
-    // Where the call succeeds, the vector has as many bytes as the stripe, and those of the stripe
-    // where the source tells its bytes. The source tells what it told and is as long; its count of
-    // failures rises with SourceFailed alone. Memory is refused only where the vector's capacity
-    // was below the stripe's length. (The fields of `LoadsStripe`.)
+    // If the tail has stripe `number`, and its stripes end within the source and have at most 2^40 bytes together, then
+    // the following holds. After a success `into` has as many bytes as the stripe, and they are the stripe's bytes if
+    // the source's bytes are known. The source has its former length, and the same is known of its bytes. Its count of
+    // failures rises with `SourceFailed`, and stays the same after a success and after `OutOfMemory`. `OutOfMemory`
+    // comes only if the capacity of `into` was less than the stripe's length.
     ensures loaded { LoadsStripe S.told S.size S.failures source.old source.new (stripe_at tail.now.stripes number)
         (vec_capacity into.old) into.new.items result }
-    // A refusal is want of memory or SourceFailed.
+    // If the tail has stripe `number`, and its stripes end within the source and have at most 2^40 bytes together, then
+    // an error is `OutOfMemory` or `SourceFailed`.
     ensures fault { IfErr result (λ fault. (fault ≡ OutOfMemory) ⊎ (fault ≡ SourceFailed)) }
 {
     let stripe = tail.stripes.as_slice()[number];
@@ -50,9 +55,11 @@ pub fn load_stripe<S: Source>(
     Ok(())
 }
 
-/// The view of the stripe with this number, over its bytes.
+/// Returns the view of stripe `number` over its bytes. The tail must have this stripe.
 ///
-/// Refusals: `Stripe` with the number, and the fault of `StripeView::open`; `OutOfMemory`.
+/// # Errors
+///
+/// `Stripe` with the number and the fault of `StripeView::open`, and `OutOfMemory` if there is no memory.
 pub fn view_stripe<'a>(
     alloc: Global,
     tail: &'a Tail,
@@ -60,10 +67,10 @@ pub fn view_stripe<'a>(
     bytes: &'a [u8],
 ) -> Result<StripeView<'a>, FileFault>
     requires { number < length tail.now.stripes }
-    // The view is that of this stripe over these bytes, with the tail's schema and stride, and its
-    // footer the one that the bytes have. Where they have one, the view is answered with it, or
-    // memory is refused; a refusal is want of memory, or it names the stripe and why its footer
-    // isn't accepted. (The fields of `ViewsStripe`.)
+    // A returned view is the view of the tail's stripe `number` over `bytes`, with the tail's schema and stride, and
+    // its footer is a footer of the stripe in `bytes`. If `bytes` have a footer of this stripe, then the view is
+    // returned with this footer, or the error is `OutOfMemory`. An error is `OutOfMemory`, or `Stripe` with `number`
+    // and the reason, never `OutOfMemory`, why `bytes` aren't opened as this stripe.
     ensures { ViewsStripe tail.now number bytes.now result }
 {
     let stripe = tail.stripes.as_slice()[number];
@@ -73,9 +80,13 @@ pub fn view_stripe<'a>(
     }
 }
 
-/// The rows of the stripe with this number, over its bytes. Their texts and bytes are slices of these.
+/// Returns the rows of stripe `number`, from its bytes. Their texts and byte strings are slices of these bytes. The
+/// tail must have this stripe.
 ///
-/// Refusals: `Stripe` with the number, and why the bytes are no stripe of any rows; `OutOfMemory`.
+/// # Errors
+///
+/// `Stripe` with the number and the reason why the bytes are no stripe of any rows, and `OutOfMemory` if there is no
+/// memory.
 pub fn stripe_rows<'a>(
     alloc: Global,
     tail: &'a Tail,
@@ -83,10 +94,11 @@ pub fn stripe_rows<'a>(
     bytes: &'a [u8],
 ) -> Result<Vec<Row<'a>>, FileFault>
     requires { number < length tail.now.stripes }
-    // The rows that are answered are those that the stripe has by these bytes.
+    // If rows are returned, then `bytes` are the tail's stripe `number` with these rows.
     ensures found { IfOk result
         (λ rows. IsStripe tail.now.schema (stripe_at tail.now.stripes number) bytes.now (views rows.items)) }
-    // A refusal is want of memory, or it names the stripe and why it has no rows.
+    // An error is `OutOfMemory`, or `Stripe` with `number` and the reason, never `OutOfMemory`, why `bytes` are not the
+    // tail's stripe `number` with any rows.
     ensures fault { IfErr result (λ fault. (fault ≡ OutOfMemory)
         ⊎ ((why : StripeFault) × (fault ≡ Stripe number why) × (why ≢ stripe.OutOfMemory)
         × IsNoStripe tail.now.schema (stripe_at tail.now.stripes number) bytes.now why)) }
@@ -99,7 +111,7 @@ pub fn stripe_rows<'a>(
 }
 
 impl<S: Source> OrcFile<S> {
-    /// Whether the stripe with this number is longer than the cap.
+    /// Returns whether stripe `number` is longer than the cap.
     fn is_above_cap(&self, number: usize) -> bool
         requires { number < length self.now.tail.stripes }
         ensures yes { OnTrue result (self.now.cap < stripe_length (stripe_at self.now.tail.stripes number)) }
@@ -110,19 +122,22 @@ impl<S: Source> OrcFile<S> {
         len > self.cap
     }
 
-    /// Fills the vector with the bytes of the stripe with this number, which are read in one call; of a stripe
-    /// without bytes nothing is asked. After another refusal than `Limit` the vector holds anything, and the file is
-    /// as it was.
+    /// Fills the vector with the bytes of stripe `number`, which are read in one call of the source; in none if the
+    /// stripe has no bytes. The file must have this stripe.
     ///
-    /// Refusals: `Limit` where the stripe is longer than the file's cap, and then neither the source was asked nor
-    /// the vector touched; `SourceFailed` where the source failed; `OutOfMemory`.
+    /// # Errors
+    ///
+    /// - `Limit` if the stripe is longer than the file's cap. The source isn't read then, and the vector is unchanged.
+    /// - `SourceFailed` if the read fails. The vector may have any contents then.
+    /// - `OutOfMemory` if there is no memory. The vector may have any contents then.
+    ///
+    /// After each error the file can be used as before.
     pub fn load(&mut self, number: usize, into: &mut Vec<u8>) -> Result<(), FileFault>
         requires { number < length self.old.tail.stripes }
-        // If the call succeeds, then `into` has as many bytes as stripe `number`, and they are the stripe's
-        // bytes if the source's bytes are known. In any case the source has its former length, and the same is
-        // known of its bytes. Its count of failures rises with `SourceFailed`, and stays the same after a
-        // success and after `OutOfMemory`. `OutOfMemory` comes only if the capacity of `into` was less than the
-        // stripe's length.
+        // After a success `into` has as many bytes as stripe `number`, and they are the stripe's bytes if the source's
+        // bytes are known. The source has its former length, and the same is known of its bytes. Its count of failures
+        // rises with `SourceFailed`, and stays the same after a success and after `OutOfMemory`. `OutOfMemory` comes
+        // only if the capacity of `into` was less than the stripe's length.
         ensures loaded { LoadsStripe S.told S.size S.failures self.old.source self.new.source
             (stripe_at self.old.tail.stripes number) (vec_capacity into.old) into.new.items result }
         // The file keeps its tail and its cap.
@@ -149,9 +164,11 @@ impl<S: Source> OrcFile<S> {
         load_stripe(&mut self.source, &self.tail, number, into)
     }
 
-    /// The view of the stripe with this number, over its bytes.
+    /// Returns the view of stripe `number` over its bytes. The file must have this stripe.
     ///
-    /// Refusals: `Stripe` with the number, and the fault of `StripeView::open`; `OutOfMemory`.
+    /// # Errors
+    ///
+    /// `Stripe` with the number and the fault of `StripeView::open`, and `OutOfMemory` if there is no memory.
     pub fn view<'a>(
         &'a self,
         alloc: Global,
@@ -159,10 +176,10 @@ impl<S: Source> OrcFile<S> {
         bytes: &'a [u8],
     ) -> Result<StripeView<'a>, FileFault>
         requires { number < length self.now.tail.stripes }
-        // If the view is returned, then it is the view of stripe `number` over `bytes`, with the file's schema
-        // and stride, and its footer is a footer of the stripe in `bytes`. If `bytes` have a footer of this
-        // stripe, the view is returned with this footer, or the error is `OutOfMemory`. Any other error is
-        // `Stripe` with `number` and the reason, never `OutOfMemory`, why `bytes` aren't opened as this stripe.
+        // A returned view is the view of stripe `number` over `bytes`, with the file's schema and stride, and its
+        // footer is a footer of the stripe in `bytes`. If `bytes` have a footer of this stripe, then the view is
+        // returned with this footer, or the error is `OutOfMemory`. An error is `OutOfMemory`, or `Stripe` with
+        // `number` and the reason, never `OutOfMemory`, why `bytes` aren't opened as this stripe.
         ensures { ViewsStripe self.now.tail number bytes.now result }
     {
         view_stripe(alloc, &self.tail, number, bytes)

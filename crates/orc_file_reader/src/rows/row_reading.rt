@@ -1,4 +1,4 @@
-//! A file's rows, read stripe by stripe: the bytes of one stripe are held at a time.
+//! Reads a file's rows stripe by stripe, holding the bytes of one stripe at a time.
 ghost use Rattle.std.specs.Prelude.{◌≡◌, ◌≢◌, ◌<◌, ◌≤◌, ◌++◌, ◌⊎◌, List, length, OnOk, IfOk, IfErr, IfSome, IsErrOf, MatchResult};
 ghost use Rattle.orc_values.specs.Cells.{Cell};
 ghost use Rattle.orc_values.specs.Views.{views};
@@ -21,7 +21,7 @@ use orc_tail::FileFault;
 use orc_values::{Row, owned};
 use std::alloc::{AllocError, Global};
 
-/// Puts rows with texts of their own behind others.
+/// Adds copies of rows, which own their texts, at the end of a list.
 fn append_owned(
     alloc: Global,
     from: &[Row<'_>],
@@ -36,9 +36,13 @@ fn append_owned(
 }
 
 impl<S: Source> OrcFile<S> {
-    /// The rows of the stripe with this number, over its bytes. Their texts and bytes are slices of these.
+    /// Returns the rows of stripe `number`, from its bytes. Their texts and byte strings are slices of these bytes. The
+    /// file must have this stripe.
     ///
-    /// Refusals: `Stripe` with the number, and why the bytes are no stripe of any rows; `OutOfMemory`.
+    /// # Errors
+    ///
+    /// `Stripe` with the number and the reason why the bytes are no stripe of any rows, and `OutOfMemory` if there is
+    /// no memory.
     pub fn stripe_rows<'a>(
         &'a self,
         alloc: Global,
@@ -59,7 +63,7 @@ impl<S: Source> OrcFile<S> {
         stripe_rows(alloc, &self.tail, number, bytes)
     }
 
-    /// Reads the rows of the stripe with this number behind others.
+    /// Reads the rows of stripe `number`, and adds them at the end of a list.
     fn read_stripe(
         &mut self,
         alloc: Global,
@@ -91,12 +95,17 @@ impl<S: Source> OrcFile<S> {
         Ok(())
     }
 
-    /// The file's rows, with texts of their own. Each stripe's bytes are read in one call, and those of one
-    /// stripe are held at a time. After a refusal the file is as it was, and may be asked again.
+    /// Reads all rows of the file. They own their texts. Each stripe's bytes are read in one call of the source, and
+    /// the bytes of one stripe are held at a time.
     ///
-    /// Refusals: of the first stripe that is refused `Limit` where it is longer than the file's cap, or `Stripe` with
-    /// its number where it has no rows, and why; `SourceFailed` where the source failed; `OutOfMemory`. Where it is
-    /// `Stripe` the bytes are no file of any rows.
+    /// # Errors
+    ///
+    /// - At the first stripe that is longer than the file's cap or has no rows: `Limit` if it is longer than the cap,
+    ///   else `Stripe` with its number and the reason. `Stripe` means that the bytes are no file of any rows.
+    /// - `SourceFailed` if a read fails.
+    /// - `OutOfMemory` if there is no memory.
+    ///
+    /// After each error the file can be used as before.
     pub fn rows(&mut self, alloc: Global) -> Result<Vec<Row<'static>>, FileFault>
         // If rows are returned, and the source's bytes are known and have the file's tail, then these bytes are
         // a file with this tail and the returned rows.
