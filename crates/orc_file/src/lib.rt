@@ -1,5 +1,5 @@
-//! Files: the calls of `orc_file_reader`, which gives their rows, and of `orc_file_writer`, which writes rows, and the laws of
-//! both. Their tails, and the devices that their bytes come from and go to, are named on.
+//! Files: the calls of `orc_file_reader`, which reads rows, and of `orc_file_writer`, which writes rows, and the laws
+//! of both. The crate also exports the calls for tails and for devices, which `orc_tail` and `orc_io` define.
 #![tactic(auto)]
 
 mod laws;

@@ -1,5 +1,5 @@
-//! Stripes: columns and streams to rows, and back. Users call this crate, which hands on the calls of `orc_stripe_reader` and
-//! of `orc_stripe_writer`.
+//! Stripes: from columns and streams to rows, and back. Users call this crate, which exports the calls of
+//! `orc_stripe_reader` and of `orc_stripe_writer`.
 #![tactic(auto)]
 
 pub use orc_directory::{Spot, StreamKind, StripeFault};
