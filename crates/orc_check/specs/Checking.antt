@@ -1,4 +1,4 @@
--- What is done of a file that is checked.
+-- The steps of checking a file (this project's).
 use Rattle.std.specs.Prelude.{◌≡◌, ◌≢◌, ◌<◌, ◌≤◌, ◌⊎◌, ℕ, Some, List, [], ◌∷◌, length, slice_get}
 use Rattle.std.specs.List.{AllByRecursion}
 use Rattle.orc_values.specs.Shapes.{Shape, width}
@@ -23,12 +23,13 @@ use Rattle.orc_tail.specs.declared.tail.Tail.{Tail}
 use Rattle.orc_check.specs.declared.finding.Finding.{Finding}
 use Rattle.orc_check.specs.Findings.{OfStripe, AddsFindings, stripe_told}
 
--- the statistics of the first n columns of some rows, of children no more than is told of the column
+-- the statistics of the first n columns of some rows, without the element counts that the stored ones don't have
 pub record HaveKnown (s : Shape) (told : List Stat) (rows : List Cell) (n : ℕ) (stats : List Stat) : Type 0 where
   pub counted : length stats ≡ n
   pub each : (c : ℕ) → c < n → slice_get stats c ≡ Some (known_as (told_body (slice_get told c)) (column_stat s rows c))
 
--- those of each stripe's rows; of a stripe of which nothing is told nothing is known of children
+-- the statistics of each stripe's rows, without the element counts that the stored ones don't have; a stripe without
+-- stored statistics gets no element counts
 abbrev pub AreKnown : Shape → List (List Stat) → List (List Cell) → List (List Stat) → Type 0
 AreKnown s told [] [] = Unit {0}
 AreKnown s told [] (stats ∷ own) = ⊥
@@ -37,8 +38,8 @@ AreKnown s [] (rows ∷ parts) (stats ∷ own) = HaveKnown s [] rows (width s) s
 AreKnown s (told ∷ more) (rows ∷ parts) (stats ∷ own) =
     HaveKnown s told rows (width s) stats × AreKnown s more parts own
 
--- These bytes of the stripe with this number have rows; what is found of them stands behind what was found before, and
--- these are the statistics of their columns, as far as they are told.
+-- These bytes are stripe n with some rows. The stripe's findings are added after those found before, and `stats` are
+-- the statistics of its columns, without the element counts that the stored ones don't have.
 pub record IsChecked (tail : Tail) (n : ℕ) (bytes : List ℕ) (before after : List Finding)
     (stats : List Stat) : Type 0 where
   pub rows : List Cell
@@ -55,37 +56,37 @@ CheckFault bytes fault =
 abbrev pub IsReason : StripeFault → Type 0
 IsReason why = (s : Shape) × (info : StripeInfo) × (bytes : List ℕ) × IsNoStripe s info bytes why
 
--- The stripe with this number has no rows, for such a reason.
+-- the fault is that stripe n has no rows, for a reason for which some bytes are no stripe
 abbrev pub IsOfStripe : ℕ → FileFault → Type 0
 IsOfStripe n fault = (why : StripeFault) × (fault ≡ Stripe n why) × (why ≢ stripe.OutOfMemory) × IsReason why
 
--- one of so many has none
+-- the fault is that one of `many` stripes has no rows
 abbrev pub IsOfStripes : ℕ → FileFault → Type 0
 IsOfStripes many fault = (n : ℕ) × (n < many) × IsOfStripe n fault
 
--- Beside a source that fails, a fault that a check may be refused for at all, whatever the source tells: one of a tail,
--- want of memory among them, or of a stripe.
+-- A fault with which a check may end if the source hasn't failed, whether or not its bytes are known: that of a test of
+-- a tail, want of memory, or that of a stripe.
 abbrev pub IsOfCheck : FileFault → Type 0
 IsOfCheck fault = IsOfTail fault ⊎ IsOfStripes most_stripes fault
 
--- rows of a stripe: they fit, and no column has more cells than a stripe may have
+-- the rows fit the schema, and no column has more cells than a stripe may have
 pub record AreOfSchema (s : Shape) (rows : List Cell) : Type 0 where
   pub fit : RowsFit s rows
   pub few : (column : ℕ) → column < width s → length (cells s column rows) < cell_limit
 
--- These are the statistics of the rows of some stripes, as far as this tells of children, and there are no more stripes
--- than a file may have.
+-- `own` are the statistics of the rows of some stripes, without the element counts that `told` doesn't have, and there
+-- are no more stripes than a file may have.
 pub record AreOwnStats (s : Shape) (told : List (List Stat)) (parts : List (List Cell))
     (own : List (List Stat)) : Type 0 where
   pub fit : AllByRecursion (AreOfSchema s) parts
   pub few : length parts ≤ most_stripes
   pub known : AreKnown s told parts own
 
--- of some rows, of which something is told
+-- `own` are the statistics of the rows of some stripes, for some stored statistics
 abbrev pub HaveOwn : Shape → List (List Stat) → Type 0
 HaveOwn s own = (told : List (List Stat)) × (parts : List (List Cell)) × AreOwnStats s told parts own
 
--- and these are the statistics of all their rows
+-- `whole` are the statistics of the rows of all stripes, whose own statistics are `own`
 abbrev pub IsWholeOf : Shape → List (List Stat) → List Stat → Type 0
 IsWholeOf s own whole =
     (length whole ≡ width s)

@@ -1,9 +1,9 @@
--- A finding as a text: its name and its numbers, with a blank between them (own).
+-- A finding as a text: its name and its numbers, separated by blanks (this project's).
 use Rattle.std.specs.Prelude.{ℕ, List, ◌∷◌, ◌++◌, codes, decimal}
 use Rattle.orc_check.specs.declared.finding.Finding.{Finding}
 use Rattle.orc_check.specs.declared.finding.Finding.TheVariants.{StripeStatistic, IndexEntries, IndexStatistic, IndexPosition, FileStatistic}
 
--- what is found, as its line says it
+-- the text of a finding
 abbrev pub finding_text : Finding → List ℕ
 finding_text (StripeStatistic s c) = codes "StripeStatistic " ++ (decimal s ++ 32 ∷ decimal c)
 finding_text (IndexEntries s c) = codes "IndexEntries " ++ (decimal s ++ 32 ∷ decimal c)

@@ -1,6 +1,6 @@
--- What a file says of itself, and is not so (own): statistics of stripes, of groups of rows and of the whole
--- file that aren't those of the rows (ORC specification, "Column Statistics"), and a row index that doesn't say
--- where groups of rows begin ("Row Group Index").
+-- What a check finds in a file (this project's): statistics of stripes, of row groups and of the whole file that aren't
+-- those of the rows (ORC specification, "Column Statistics"), and row indexes whose entries or positions are wrong
+-- ("Row Group Index").
 use Rattle.std.specs.Prelude.{◌≡◌, ℕ, zero, suc, ◌<◌, Bool, true, false, None, List, [], ◌∷◌, ◌++◌, length, ◌⊎◌, slice_get, get_or}
 use Rattle.std.specs.Option.{option_map}
 use Rattle.orc_wire.specs.declared.row_index.RowIndexEntry.{RowIndexEntry}
@@ -30,25 +30,25 @@ use Rattle.orc_check.specs.declared.finding.Finding.TheVariants.{StripeStatistic
 
 -- ---- lists of findings
 
--- this finding where something doesn't hold, and none where it does
+-- this finding if something doesn't hold, and none if it does
 abbrev pub Unless : Type 0 → Finding → List Finding → Type 0
 Unless Holds finding found = (Holds × (found ≡ [])) ⊎ ((Holds → ⊥) × (found ≡ finding ∷ []))
 
--- the finding, if what it is about isn't so
+-- the finding if this is false, and none if it is true
 abbrev pub reported : Bool → Finding → List Finding
 reported true finding = []
 reported false finding = finding ∷ []
 
--- what is found of one thing, and behind it what is found of another
+-- the findings of one thing, followed by those of another
 abbrev pub Both : (List Finding → Type 0) → (List Finding → Type 0) → List Finding → Type 0
 Both First Second found = (a : List Finding) × (b : List Finding) × First a × Second b × (found ≡ a ++ b)
 
--- what is found of each number below this one, in their order
+-- the findings of each number below this one, in order
 abbrev pub OfEach : (ℕ → List Finding → Type 0) → ℕ → List Finding → Type 0
 OfEach Of zero found = found ≡ []
 OfEach Of (suc n) found = Both (OfEach Of n) (Of n) found
 
--- findings behind those before
+-- findings are added after those before
 abbrev pub AddsFindings : (List Finding → Type 0) → List Finding → List Finding → Type 0
 AddsFindings Of before after = (own : List Finding) × Of own × (after ≡ before ++ own)
 
@@ -67,26 +67,26 @@ pub record IndexedColumn : Type 0 where
 abbrev pub entry_of_group : List RowIndexEntry → ℕ → RowIndexEntry
 entry_of_group entries group = get_or entries group (record { positions = []; statistics = None })
 
--- an entry tells the statistic of its group's cells, of children perhaps less
+-- an entry has a statistic that agrees with that of its group's cells
 abbrev pub TellsGroup : Shape → List Cell → RowIndexEntry → Type 0
 TellsGroup s group entry = Tells (option_map (stat_read (kind_of s)) entry.statistics) (stat (kind_of s) group)
 
--- the group's entry tells the statistic of the group
+-- the group's entry has a statistic that agrees with that of the group
 abbrev pub HasRightStatistic : IndexedColumn → ℕ → Type 0
 HasRightStatistic x g = TellsGroup x.shape (group_of x.cells x.bounds g) (entry_of_group x.entries g)
 
--- from the positions in the group's entry a reader goes on with the group
+-- a reader goes on from the positions in the group's entry after the cells before the group
 abbrev pub HasRightPositions : IndexedColumn → ℕ → Type 0
 HasRightPositions x g =
     AreReadPositions x.shape x.streams (before_group x.cells x.bounds g) (entry_of_group x.entries g).positions
 
--- What is found of a group: its statistic, then its positions.
+-- the findings of a group: that of its statistic, then that of its positions
 abbrev pub OfGroup : IndexedColumn → ℕ → ℕ → ℕ → List Finding → Type 0
 OfGroup x stripe column g =
     Both (Unless (HasRightStatistic x g) (IndexStatistic stripe column g))
     (Unless (HasRightPositions x g) (IndexPosition stripe column g))
 
--- what is found of the column's groups, of which each has an entry
+-- the findings of the column's groups, each of which has an entry
 abbrev pub OfGroups : IndexedColumn → ℕ → ℕ → List Finding → Type 0
 OfGroups x stripe column = OfEach (OfGroup x stripe column) (length x.entries)
 
@@ -100,50 +100,50 @@ column_with view rows c entries = record {
   entries = entries;
 }
 
--- This is the column with its index, which the directory lists, and which has an entry for each group of the rows.
+-- x is column c with its row index, which the directory lists and which has an entry for each group of the rows.
 pub record IsIndexedColumn (view : Opened) (rows : List Cell) (c : ℕ) (x : IndexedColumn) : Type 0 where
   pub message : RowIndexMsg
   pub has_index : HasIndex view.footer view.bytes c message
   pub whole : HasEachGroup view (length rows) message
   pub column_is : x ≡ column_with view rows c message.entries
 
--- The one finding of entries where no index of the column has one for each group of the rows; else what is
--- found of each group.
+-- The findings of a column's row index: only that of its entries if the column has no row index with an entry for each
+-- group of the rows, else those of each group.
 abbrev pub OfEntries : Opened → ℕ → List Cell → ℕ → List Finding → Type 0
 OfEntries view n rows c found =
     (((x : IndexedColumn) → IsIndexedColumn view rows c x → ⊥) × (found ≡ IndexEntries n c ∷ []))
     ⊎ ((x : IndexedColumn) × IsIndexedColumn view rows c x × OfGroups x n c found)
 
--- Where the stride is 0, nothing is found of indexes, whatever the directory lists.
+-- The findings of a column's row index; none if the stride is 0, whatever the directory lists.
 abbrev pub OfIndex : Opened → ℕ → List Cell → ℕ → List Finding → Type 0
 OfIndex view n rows c found = ((view.stride ≡ 0) × (found ≡ [])) ⊎ ((0 < view.stride) × OfEntries view n rows c found)
 
 -- ---- stripes
 
--- The statistic that is told of a column in a stripe is that of its cells in the rows; of children it may say less.
+-- The stored statistic of a column in a stripe agrees with that of its cells in the rows.
 abbrev pub TellsStripe : Shape → List Stat → List Cell → ℕ → Type 0
 TellsStripe schema told rows c = Tells (slice_get told c) (column_stat schema rows c)
 
--- of a column: its statistic, and then its index
+-- the findings of a column: that of its statistic, then those of its row index
 abbrev pub OfColumn : Opened → List Stat → ℕ → List Cell → ℕ → List Finding → Type 0
 OfColumn view told n rows c =
     Both (Unless (TellsStripe view.schema told rows c) (StripeStatistic n c)) (OfIndex view n rows c)
 
--- what the tail tells of a stripe, by its columns
+-- the statistics that the tail has of a stripe's columns
 abbrev pub stripe_told : Tail → ℕ → List Stat
 stripe_told tail n = get_or tail.stripe_stats n []
 
--- What is found of the stripe with this number in these bytes, column by column, if these rows are its own.
+-- the findings of stripe n in these bytes, column by column, if these are its rows
 abbrev pub OfStripe : Tail → ℕ → List ℕ → List Cell → List Finding → Type 0
 OfStripe tail n bytes rows found =
     (footer : StripeFooter) × HasFooter tail.schema (stripe_at tail.stripes n) bytes footer
     × OfEach (OfColumn (opened_stripe tail n bytes footer) (stripe_told tail n) n rows) (width tail.schema) found
 
--- the rows of the stripe with a number
+-- the rows of stripe n
 abbrev pub rows_at : List (List Cell) → ℕ → List Cell
 rows_at parts n = get_or parts n []
 
--- what is found of all stripes in their order
+-- the findings of all stripes, in order
 abbrev pub OfStripes : List ℕ → Tail → List (List Cell) → List Finding → Type 0
 OfStripes bytes tail parts =
     OfEach (λ n. OfStripe tail n (stripe_bytes (stripe_at tail.stripes n) bytes) (rows_at parts n))
@@ -151,22 +151,22 @@ OfStripes bytes tail parts =
 
 -- ---- the file
 
--- The statistic of the whole file is that of all rows, whose sum isn't known where that of some stripe isn't, nor a
--- part of children where some stripe with a value doesn't tell it.
+-- The stored statistic of a column of the whole file agrees with that of all rows. The right one has no sum if the sum
+-- of some stripe overflows, and an element count only if each stripe with a value has it.
 abbrev pub TellsFile : Tail → List (List Cell) → ℕ → Type 0
 TellsFile tail parts c = Tells (slice_get tail.file_stats c) (known_whole_of tail.schema tail.stripe_stats parts c)
 
--- the same of each column of a file of these rows
+-- the stored statistic of each column of the whole file agrees with that of all rows
 abbrev pub TellsWhole : Tail → List Cell → Type 0
 TellsWhole tail rows = (c : ℕ) → c < width tail.schema → TellsFile tail (cut_rows tail.stripes rows) c
 
--- what is found of the statistics of the whole file, column by column
+-- the findings of the statistics of the whole file, column by column
 abbrev pub OfFile : Tail → List (List Cell) → List Finding → Type 0
 OfFile tail parts = OfEach (λ c. Unless (TellsFile tail parts c) (FileStatistic c)) (width tail.schema)
 
--- What is found of a file with this tail, if these rows are its own (`FileIs` says so): stripe by stripe, in
--- each column by column, for each column its statistic, then its index, group by group; last the file's
--- statistics by column.
+-- The findings of a file with this tail, if these are its rows (`FileIs`): stripe by stripe, in each stripe column by
+-- column, for each column that of its statistic, then those of its row index, group by group; last those of the file's
+-- statistics, column by column.
 abbrev pub Findings : List ℕ → Tail → List Cell → List Finding → Type 0
 Findings bytes tail rows =
     Both (OfStripes bytes tail (cut_rows tail.stripes rows)) (OfFile tail (cut_rows tail.stripes rows))

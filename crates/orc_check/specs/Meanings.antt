@@ -1,5 +1,5 @@
--- What each finding says of a file, whatever the order of findings (own; ORC specification, "Column Statistics"
--- and "Row Group Index").
+-- What each finding means, whatever the order of findings (this project's; ORC specification, "Column Statistics" and
+-- "Row Group Index").
 use Rattle.std.specs.Prelude.{ℕ, ◌<◌, List, length}
 use Rattle.orc_wire.specs.declared.stripe_footer.StripeFooter.{StripeFooter}
 use Rattle.orc_values.specs.Cells.{Cell}
@@ -12,7 +12,7 @@ use Rattle.orc_check.specs.declared.finding.Finding.{Finding}
 use Rattle.orc_check.specs.declared.finding.Finding.TheVariants.{StripeStatistic, IndexEntries, IndexStatistic, IndexPosition, FileStatistic}
 use Rattle.orc_check.specs.Findings.{IndexedColumn, IsIndexedColumn, HasRightStatistic, HasRightPositions, TellsStripe, TellsFile, stripe_told, rows_at}
 
--- the bytes of the stripe with this number
+-- the bytes of stripe n
 abbrev pub numbered_stripe_bytes : List ℕ → Tail → ℕ → List ℕ
 numbered_stripe_bytes bytes tail n = stripe_bytes (stripe_at tail.stripes n) bytes
 
@@ -21,8 +21,8 @@ pub record HasColumn (tail : Tail) (n c : ℕ) : Type 0 where
   pub stripe : n < length tail.stripes
   pub column : c < width tail.schema
 
--- This is column c of the stripe with this number, with its index, which has an entry for each group of the rows; the
--- file's stride is above 0.
+-- x is column c of stripe n with its row index, which has an entry for each group of the rows; the file's stride is
+-- above 0.
 pub record IsColumnOf (bytes : List ℕ) (tail : Tail) (parts : List (List Cell)) (n c : ℕ)
     (x : IndexedColumn) : Type 0 where
   pub there : HasColumn tail n c
@@ -31,9 +31,10 @@ pub record IsColumnOf (bytes : List ℕ) (tail : Tail) (parts : List (List Cell)
   pub has_footer : HasFooter tail.schema (stripe_at tail.stripes n) (numbered_stripe_bytes bytes tail n) footer
   pub column : IsIndexedColumn (opened_stripe tail n (numbered_stripe_bytes bytes tail n) footer) (rows_at parts n) c x
 
--- What a finding says of a file with this tail, whose stripes have these rows. A statistic isn't that of the
--- rows; a column's index isn't one with an entry for each group; an entry's statistic isn't that of its group,
--- or its positions aren't where the group begins.
+-- A finding is true of a file with this tail, whose stripes have these rows: a stripe's statistic doesn't agree with
+-- the rows; or a column has no row index with an entry for each group; or an entry's statistic doesn't agree with its
+-- group; or a reader doesn't go on from its positions after the cells before the group; or a statistic of the whole
+-- file doesn't agree with the rows.
 abbrev pub IsSo : List ℕ → Tail → List (List Cell) → Finding → Type 0
 IsSo bytes tail parts (StripeStatistic n c) =
     HasColumn tail n c × (TellsStripe tail.schema (stripe_told tail n) (rows_at parts n) c → ⊥)

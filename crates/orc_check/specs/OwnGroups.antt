@@ -1,5 +1,5 @@
--- Groups of cells that one column's own streams spell, whatever the columns below it are (own; ORC specification,
--- "Row Group Index").
+-- Groups of cells that one column's own streams spell, whatever the columns below it have (this project's; ORC
+-- specification, "Row Group Index").
 use Rattle.std.specs.Prelude.{◌≡◌, ℕ, List, length}
 use Rattle.orc_values.specs.Cells.{Cell}
 use Rattle.orc_values.specs.Shapes.{Shape}
@@ -8,7 +8,7 @@ use Rattle.orc_row_groups.specs.Bounds.{AreBounds}
 use Rattle.orc_column_walk.specs.declared.found.GroupFound.{GroupFound}
 use Rattle.orc_check.specs.Walking.{AreGroups}
 
--- what is found of each group of these cells, which the streams spell
+-- the streams spell these cells, and `groups` has what was read of each of their groups
 pub record AreGroupsOf (s : Shape) (x : Streams) (cells : List Cell) (bounds : List ℕ)
     (groups : List GroupFound) : Type 0 where
   pub column : IsColumn s x cells
@@ -16,6 +16,6 @@ pub record AreGroupsOf (s : Shape) (x : Streams) (cells : List Cell) (bounds : L
   pub counted : length groups ≡ length bounds
   pub are : AreGroups s cells bounds groups
 
--- the same of some cells
+-- the streams spell some cells, and `groups` has what was read of each of their groups
 abbrev pub HaveCells : Shape → Streams → List GroupFound → Type 0
 HaveCells s x groups = (cells : List Cell) × (bounds : List ℕ) × AreGroupsOf s x cells bounds groups

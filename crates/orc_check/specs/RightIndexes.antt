@@ -1,4 +1,4 @@
--- The row indexes of a file of which nothing is found (ORC specification, "Row Group Index").
+-- The row indexes of a file that has no findings (ORC specification, "Row Group Index").
 use Rattle.std.specs.Prelude.{◌≡◌, ℕ, ◌<◌, Some, true, List, length, slice_get}
 use Rattle.orc_wire.specs.Messages.{row_index}
 use Rattle.orc_wire.specs.Spells.{Spells}
@@ -21,8 +21,8 @@ use Rattle.orc_file_reader.specs.FileRows.{opened_stripe, cut_rows}
 use Rattle.orc_tail.specs.declared.tail.Tail.{Tail}
 use Rattle.orc_check.specs.Findings.{TellsGroup, rows_at}
 
--- Bytes that are taken for the index of these groups: as many entries as bounds, each with positions from which a reader
--- goes on, and with a statistic that agrees with that of its group.
+-- The bytes are a row index of these groups: it has as many entries as bounds, each with positions from which a reader
+-- goes on after the cells before its group, and with a statistic that agrees with that of its group.
 pub record IsAgreeingIndex (s : Shape) (x : Streams) (cells : List Cell) (bounds text : List ℕ) : Type 0 where
   pub message : RowIndexMsg
   pub spelled : Spells row_index 0 0 text message
@@ -34,28 +34,28 @@ pub record IsAgreeingIndex (s : Shape) (x : Streams) (cells : List Cell) (bounds
       → slice_get message.entries g ≡ Some entry
       → TellsGroup s (group_of cells bounds g) entry
 
--- the directory lists such an index of column c
+-- the directory lists a row index of column c, and its bytes are a row index of the groups of the rows
 abbrev pub HasAgreeingIndex : ℕ → Shape → List Cell → StripeFooter → List ℕ → ℕ → Type 0
 HasAgreeingIndex stride s rows footer bytes c =
     (has_stream c ROW_INDEX footer.streams ≡ true)
     × IsAgreeingIndex (shape_at s c) (columns_of footer bytes c) (cells s c rows)
     (bounds_of s c rows (starts_of_groups stride (length rows))) (slice c ROW_INDEX footer.streams bytes)
 
--- Each column of a stripe has an index with an entry for each group of these rows: its statistic, of children perhaps
--- less, and where a reader goes on.
+-- Each column of a stripe has a row index with an entry for each group of these rows, whose statistic agrees with that
+-- of the group, and from whose positions a reader goes on after the cells before the group.
 pub record IsIndexed (s : Shape) (stride : ℕ) (info : StripeInfo) (bytes : List ℕ) (rows : List Cell) : Type 0 where
   pub footer : StripeFooter
   pub has_footer : HasFooter s info bytes footer
   pub right : (c : ℕ) → c < width s → HasAgreeingIndex stride s rows footer bytes c
 
--- where the stride is above 0, each of the stripes is indexed so
+-- if the stride is above 0, each column of each stripe has such a row index
 abbrev pub HasIndexes : List ℕ → Tail → List Cell → Type 0
 HasIndexes bytes tail rows =
     0 < tail.stride → (n : ℕ) → n < length tail.stripes
     → IsIndexed tail.schema tail.stride (stripe_at tail.stripes n) (stripe_bytes (stripe_at tail.stripes n) bytes)
     (rows_at (cut_rows tail.stripes rows) n)
 
--- each stripe starts at each of its groups, as a cursor enters it there
+-- each stripe starts at each of its groups, so that a cursor can begin there
 abbrev pub StartsAtGroups : List ℕ → Tail → List Cell → Type 0
 StartsAtGroups bytes tail rows =
     (n : ℕ) → n < length tail.stripes → (footer : StripeFooter)

@@ -1,5 +1,5 @@
--- A stripe's columns that are checked one after the other, each from its own streams, without rows (own; ORC
--- specification, "Types": columns are numbered in pre-order).
+-- A stripe's columns, which are checked one after the other, each from its own streams, without making rows (this
+-- project's; ORC specification, "Types": columns are numbered in pre-order).
 use Rattle.std.specs.Prelude.{◌≡◌, ℕ, ◌+◌, ◌<◌, Some, List, length, slice_get}
 use Rattle.orc_values.specs.Cells.{Cell, values}
 use Rattle.orc_values.specs.Columns.{cells}
@@ -26,7 +26,7 @@ use Rattle.orc_check.specs.Checking.{HaveKnown}
 use Rattle.orc_check.specs.Findings.{AddsFindings, OfEach, OfColumn}
 use Rattle.orc_check.specs.Needed.{MayBeWhole, NeedGroups}
 
--- its columns have encodings, their streams are found, and the bytes of their row indexes
+-- each column has an encoding, and its streams and the bytes of its row index are located
 pub record HasStripeParts (stripe : OpenStripe) : Type 0 where
   pub columns : length stripe.view.now.footer.columns ≡ width stripe.view.now.schema
   pub same : stripe.located.bytes.now ≡ stripe.view.now.bytes
@@ -35,8 +35,8 @@ pub record HasStripeParts (stripe : OpenStripe) : Type 0 where
   pub indexes : AreIndexTexts (width stripe.view.now.schema) stripe.view.now.footer.streams
       stripe.view.now.bytes stripe.texts.items
 
--- A column's cells are no more than a stripe may have of it; the first group begins with the first of them, and no group
--- before the one in front of it.
+-- A column doesn't have more cells than a column of a stripe may have. The first group begins at the first cell, and no
+-- group begins before the group in front of it.
 pub record AreGrouped (groups : CellGroups) : Type 0 where
   pub few : groups.count < cell_limit
   pub ascending : AreBounds groups.count groups.bounds.items
@@ -46,8 +46,8 @@ pub record AreGrouped (groups : CellGroups) : Type 0 where
 abbrev pub SpellsRows : Opened → List Cell → Type 0
 SpellsRows view rows = SpellRows view.schema (columns_of view.footer view.bytes) view.info.number_of_rows rows
 
--- The columns from number c on are those of a type, over so many cells of the rows; where the groups of one of them are
--- needed, so many cells come before each group.
+-- The columns from number c on are the columns of a type t over the cells `here` of the rows. `groups` has the number
+-- of these cells and, if the groups of one of these columns are needed, how many of the cells come before each group.
 pub record ComesNext (view : Opened) (rows : List Cell) (c : ℕ) (t : Shape) (here : List Cell)
     (groups : CellGroups) : Type 0 where
   pub spelled : SpellsRows view rows
@@ -56,7 +56,8 @@ pub record ComesNext (view : Opened) (rows : List Cell) (c : ℕ) (t : Shape) (h
   pub bounded : NeedGroups view c (c + width t)
       → AreGroupsFrom view.schema rows (starts_of_groups view.stride (length rows)) c t here groups.bounds.items
 
--- the same of the fields of so many structs
+-- The columns from number c on are the columns of the fields fs over `structs`. `groups` has the number of these
+-- structs and, if the groups of one of these columns are needed, how many of the structs come before each group.
 pub record FieldsComeNext (view : Opened) (rows : List Cell) (c : ℕ) (fs : Fields) (structs : List (List Cell))
     (groups : CellGroups) : Type 0 where
   pub spelled : SpellsRows view rows
@@ -66,19 +67,19 @@ pub record FieldsComeNext (view : Opened) (rows : List Cell) (c : ℕ) (fs : Fie
   pub bounded : NeedGroups view c (c + widths fs)
       → AreFieldGroupsFrom view.schema rows (starts_of_groups view.stride (length rows)) c fs structs groups.bounds.items
 
--- So many children have the cells of column c, whose type is t; where its groups or those of a column below are needed, so
--- many of these come before each group.
+-- `below` has the number of children of the cells of column c, whose type is t, and, if the groups of this column or of
+-- one below it are needed, how many children come before each group.
 abbrev pub AreChildGroups : Opened → ℕ → Shape → List Cell → CellGroups → CellGroups → Type 0
 AreChildGroups view c t column groups below =
     (below.count ≡ children t (values column))
     × (NeedGroups view c (c + width t) → below.bounds.items ≡ bounds_below t column groups.bounds.items)
 
--- of each group what its cells are, and those before it
+-- `groups` has for each group what was read of its cells and of those before it
 abbrev pub AreGroups : Shape → List Cell → List ℕ → List GroupFound → Type 0
 AreGroups s cells bounds groups =
     (g : ℕ) (group : GroupFound) → slice_get groups g ≡ Some group → IsGroupFound s cells bounds g group
 
--- what is found of the groups of column c, whose type is t
+-- `groups` has what was read of the groups of column c, whose type is t
 pub record AreColumnGroupsFound (view : Opened) (rows : List Cell) (c : ℕ) (t : Shape) (groups : List GroupFound) : Type 0 where
   pub spelled : SpellsRows view rows
   pub type : shape_at view.schema c ≡ t
@@ -88,15 +89,15 @@ pub record AreColumnGroupsFound (view : Opened) (rows : List Cell) (c : ℕ) (t 
   pub are : AreGroups t (cells view.schema c rows)
       (bounds_of view.schema c rows (starts_of_groups view.stride (length rows))) groups
 
--- what is found of the column: its statistic, and its groups where they are needed
+-- `found` has what was read of the column: its statistic, and its groups if they are needed
 pub record IsFoundInRows (view : Opened) (rows : List Cell) (c : ℕ) (t : Shape) (found : ColumnFound) : Type 0 where
   pub counted : length rows ≡ view.info.number_of_rows
   pub type : shape_at view.schema c ≡ t
   pub stat_is : found.stat ≡ stat (kind_of t) (cells view.schema c rows)
   pub groups : MayBeWhole view c → AreColumnGroupsFound view rows c t found.groups.items
 
--- What is found of the first n columns stands behind what was found before, and these are the statistics of their
--- cells, as far as they are told.
+-- The findings of the first n columns are added after those found before, and `stats` are the statistics of their
+-- cells, without the element counts that the stored ones don't have.
 pub record AreColumnsChecked (view : Opened) (told : List Stat) (number : ℕ) (rows : List Cell) (n : ℕ)
     (before after : List Finding) (stats : List Stat) : Type 0 where
   pub found : AddsFindings (OfEach (OfColumn view told number rows) n) before after

@@ -1,4 +1,4 @@
-//! A file, checked stripe by stripe.
+//! Checks a file stripe by stripe.
 ghost use Rattle.std.specs.Prelude.{◌≡◌, ◌⊎◌, List, length, IfOk, IfErr, IfSome, MatchResult};
 ghost use Rattle.orc_values.specs.Cells.{Cell};
 ghost use Rattle.orc_io.specs.Leaves.{LeavesSource};
@@ -21,7 +21,7 @@ use orc_types::Schema;
 use orc_wire::Items;
 use std::alloc::{AllocError, Global};
 
-/// The statistics of the whole file, from those of its stripes' rows, as far as each is told.
+/// Returns the statistics of the whole file, joined from those of its stripes' rows.
 fn whole_stats(alloc: Global, schema: &Schema, own: &[Items<Stat>]) -> Result<Vec<Stat>, AllocError>
     requires stripes { HaveOwn schema.now own.now }
     ensures { IfOk result (λ whole. IsWholeOf schema.now own.now whole.items) }
@@ -29,12 +29,12 @@ fn whole_stats(alloc: Global, schema: &Schema, own: &[Items<Stat>]) -> Result<Ve
     match file_statistics(alloc, schema, own) {
         Ok(whole) => Ok(whole),
         Err(StatFault::OutOfMemory) => Err(AllocError),
-        // no column has more than 2^31 cells in a stripe, and there are 65,536 stripes at most
+        // a column has fewer than 2^31 cells in a stripe, and there are at most 65,536 stripes
         Err(StatFault::CountTooLarge) => unreachable!(),
     }
 }
 
-/// What a file with this tail says of itself and is not so.
+/// Returns the findings of a file with this tail.
 fn check_tail<S: Source>(
     alloc: Global,
     source: &mut S,
@@ -66,13 +66,19 @@ fn check_tail<S: Source>(
     Ok(found)
 }
 
-/// What a file says of itself and is not so: stripe by stripe, in each column by column, for each column its
-/// statistic and then its row index, group by group; last the statistics of the whole file by column. Of the
-/// stripes' bytes those of one are held at a time.
+/// Checks the stored statistics and row indexes of a file against its rows, and returns the findings (ORC
+/// specification, "Column Statistics", "Row Group Index"). They are ordered by stripe, in each stripe by column, and
+/// for each column the finding of its statistic comes before those of its row index, which are ordered by group. The
+/// findings of the file's statistics come last, by column. The bytes of one stripe are held at a time.
 ///
-/// Refusals: those of `OrcFile::open`, and `Stripe` with the number of the first stripe that has no rows, and
-/// why; `SourceFailed`, and no other, where the source failed; `OutOfMemory`. But for the last two the bytes
-/// are no file of any rows.
+/// # Errors
+///
+/// - The fault of the first test of a tail that the file fails, as from `OrcFile::open`.
+/// - `Stripe` with the number of the first stripe that has no rows, and the reason.
+/// - `SourceFailed` if a read fails.
+/// - `OutOfMemory` if there is no memory.
+///
+/// The first two mean that the bytes are no file of any rows.
 pub fn check<S: Source>(alloc: Global, source: &mut S) -> Result<Vec<Finding>, FileFault>
     // If findings are returned and the source's bytes are known, then these bytes are a file with rows, and the
     // returned findings are exactly those of this file, in order.

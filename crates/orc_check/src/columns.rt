@@ -1,4 +1,4 @@
-//! The columns of a stripe, one after the other, each from its own streams. No row is made.
+//! Checks the columns of a stripe one after the other, each from its own streams. No row is made.
 ghost use Rattle.std.specs.Prelude.{◌≡◌, ◌≢◌, ◌<◌, ◌≤◌, ◌+◌, ◌++◌, ◌∷◌, [], Bool, List, slice_get, OnOk, IfOk, IfErr};
 ghost use Rattle.orc_stats.specs.Known.{known_as, told_body};
 ghost use Rattle.orc_values.specs.Cells.{Cell, values};
@@ -41,7 +41,7 @@ struct CellGroups {
     bounds: Vec<usize>,
 }
 
-/// How many of so many rows come before each group; where the groups of no column are needed, all rows are one.
+/// Returns how many rows come before each group. If the groups of no column are needed, all rows count as one group.
 fn firsts_of(
     alloc: Global,
     stripe: &OpenStripe<'_, '_>,
@@ -59,8 +59,8 @@ fn firsts_of(
     Vec::from_elem(alloc, 0, 1)
 }
 
-/// How many of a column's cells come before each group; where neither its groups are needed nor those of a column below
-/// it, all its cells are one.
+/// Returns how many of a column's cells come before each group. If neither the column's groups are needed nor those of
+/// a column below it, all cells count as one group.
 fn group_bounds<'c>(
     stripe: &OpenStripe<'_, '_>,
     tree: &Tree,
@@ -81,7 +81,7 @@ fn group_bounds<'c>(
     &[0]
 }
 
-/// Puts what is found of a column behind what was found before.
+/// Adds the findings of a column.
 fn check_column(
     alloc: Global,
     stripe: &OpenStripe<'_, '_>,
@@ -109,7 +109,8 @@ fn check_column(
     Ok(())
 }
 
-/// Puts a column's statistic behind those of the others, of children no more than is told of it.
+/// Adds a column's statistic to the list, without the element counts that the stored one doesn't have. Returns the
+/// number of cells of the column's children.
 fn put_stat(
     read: ColumnFound,
     told: &[Stat],
@@ -130,8 +131,8 @@ fn put_stat(
     })
 }
 
-/// Reads a column of so many cells, and puts what is found of it, and its statistic, behind what was found before. It
-/// answers how many cells each column right below has.
+/// Reads a column that has `cells.count` cells, and adds its findings and its statistic. Returns the number of cells of
+/// the column's children.
 fn add_column(
     alloc: Global,
     stripe: &OpenStripe<'_, '_>,
@@ -177,8 +178,8 @@ fn add_column(
     Ok(below)
 }
 
-/// Checks a column of so many cells, and then those below it, each with as many cells as the one above has children.
-/// It answers the number of the column that comes next.
+/// Checks a column that has `cells.count` cells, and then the columns below it, each for as many cells as its parent
+/// has children. Returns the number of the next column.
 #[cycle(walking)]
 fn check_tree(
     alloc: Global,
@@ -222,8 +223,8 @@ fn check_tree(
     }
 }
 
-/// Checks the columns of the fields of so many structs, one field after the other, and answers the number of the
-/// column that comes next.
+/// Checks the columns of the fields of `cells.count` structs, one field after the other. Returns the number of the next
+/// column.
 #[cycle(walking)]
 fn check_fields(
     alloc: Global,
@@ -258,12 +259,15 @@ fn check_fields(
     Ok(next)
 }
 
-/// Reads a stripe's columns, puts what is found of them behind what was found before, and answers the statistics of
-/// their cells, of children no more than is told.
+/// Reads a stripe's columns, adds their findings, and returns the statistics of their cells, without the element counts
+/// that the stored ones don't have.
 ///
-/// Refusals: those of a stripe's rows, which come column by column here: the fault of the first column that doesn't
-/// spell as many cells as the column above has children. `TooMany(0)` where the rows are more than 2,147,483,647;
-/// `OutOfMemory`.
+/// # Errors
+///
+/// - Those of a stripe's rows, here in the order of the columns: the fault of the first column that doesn't spell as
+///   many cells as the column above it has children.
+/// - `TooMany(0)` if there are more than 2,147,483,647 rows.
+/// - `OutOfMemory` if there is no memory.
 pub(crate) fn check_columns(
     alloc: Global,
     number: usize,

@@ -1,4 +1,4 @@
-//! The entry of a group of rows in a column's row index.
+//! Compares the entries of a column's row index with the cells of their groups.
 ghost use Rattle.std.specs.Prelude.{List, ◌≡◌, MatchBool};
 ghost use Rattle.orc_values.specs.Cells.{Cell};
 ghost use Rattle.orc_values.specs.Views.{shape};
@@ -10,7 +10,7 @@ use orc_stats::{Stat, StatKind, tells};
 use orc_values::Tree;
 use orc_wire::RowIndexEntry;
 
-/// Whether an entry tells the statistic of its group's cells.
+/// Returns whether an entry has a statistic that agrees with that of its group's cells.
 pub(crate) fn entry_tells(tree: &Tree, entry: &RowIndexEntry, right: &Stat) -> bool
     ensures { (group : List Cell) → right.now ≡ stat (kind_of (shape tree.now)) group
         → MatchBool result

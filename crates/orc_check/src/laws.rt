@@ -11,12 +11,11 @@ ghost use Rattle.orc_check.specs.RightIndexes.{HasIndexes, StartsAtGroups};
 
 use orc_stripe_reader::group_laws;
 
-/// Of a file one list of findings stands at most. A finding is in it exactly where what it says of the file is
-/// so. It is empty exactly where the statistics of each stripe and of the whole file are those of the rows, but
-/// for parts of children that they don't know, and, in a file with a stride, each column of each stripe has a
-/// row index of which the same holds.
+/// Laws of findings. A file has at most one list of findings. A finding is in it if and only if it is true of the file.
+/// The list is empty if and only if the statistics of each stripe and of the whole file are those of the rows and, if
+/// the stride is above 0, each column of each stripe has a right row index. Element counts may be missing.
 pub fn finding_laws()
-    // A file has at most one list of findings.
+    // For bytes, a tail and rows there is at most one list of findings.
     ensures one { (bytes : List ℕ) (tail : Tail) (rows : List Cell) (a b : List Finding)
         → Findings bytes tail rows a → Findings bytes tail rows b
         → a ≡ b }
@@ -34,16 +33,15 @@ pub fn finding_laws()
         → Findings bytes tail rows [] ↔ (Honest tail rows × TellsWhole tail rows × HasIndexes bytes tail rows) }
 {}
 
-/// Where nothing is found of a file, each of its stripes starts at each of its groups (`StartsGroup`), which is
-/// all that `cursor_at` asks to stand for the stripe's rows from the group's first one on and to be refused for
-/// memory alone.
+/// If a file has no findings, each of its stripes starts at each of its groups (`StartsGroup`). Then `cursor_at`
+/// returns a cursor that gives the stripe's rows from the group's first row on, or fails for want of memory.
 pub fn start_laws()
-    // If a file with rows has no findings, then each of its stripes starts at each of its groups, as
-    // `cursor_at` requires.
+    // If a file with rows has no findings, then each of its stripes starts at each of its groups with the stripe's
+    // rows, as `StripeView::cursor_at` needs it.
     ensures { (bytes : List ℕ) (tail : Tail) (rows : List Cell)
         → FileIs bytes tail rows → Findings bytes tail rows []
         → StartsAtGroups bytes tail rows }
 {
-    // for its contract alone: a stripe starts at a group whose positions are right, as a look at them decides
+    // for its contract alone: a stripe starts at a group whose positions are right
     group_laws();
 }

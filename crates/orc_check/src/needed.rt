@@ -1,5 +1,6 @@
-//! Which columns' groups are needed. They are where the row index may have an entry for each group; where it can't, its
-//! number of entries is wrong, whatever the groups are. So the groups cost no more than the bytes of the indexes.
+//! Decides which columns' groups are needed: those of a column whose row index may have an entry for each group. If it
+//! can't, its number of entries is wrong, whatever the groups are. So the groups cost no more than the bytes of the row
+//! indexes.
 ghost use Rattle.std.specs.Prelude.{◌<◌, ◌≤◌, MatchBool};
 ghost use Rattle.orc_values.specs.Shapes.{width};
 ghost use Rattle.orc_check.specs.Needed.{MayBeWhole, NeedGroups};
@@ -7,7 +8,8 @@ ghost use Rattle.orc_check.specs.Walking.{HasStripeParts};
 
 use crate::open_stripe::OpenStripe;
 
-/// Whether a column's row index may have an entry for each group of the stripe's rows: an entry takes a byte or more.
+/// Returns whether a column's row index may have an entry for each group of the stripe's rows: an entry takes at least
+/// a byte.
 pub(crate) fn may_be_whole(stripe: &OpenStripe<'_, '_>, column: usize) -> bool
     requires laid_out { HasStripeParts stripe.now }
     requires there { column < width stripe.now.view.now.schema }
@@ -27,7 +29,7 @@ pub(crate) fn may_be_whole(stripe: &OpenStripe<'_, '_>, column: usize) -> bool
     groups <= bytes.len() as u64
 }
 
-/// Whether the groups of some column are needed, of those from the first one on and before the end.
+/// Returns whether the groups of some column from `first` on and before `end` are needed.
 pub(crate) fn need_groups(stripe: &OpenStripe<'_, '_>, first: usize, end: usize) -> bool
     requires laid_out { HasStripeParts stripe.now }
     requires there { end ≤ width stripe.now.view.now.schema }

@@ -3,7 +3,8 @@ use orc_directory::Located;
 use orc_stats::Stat;
 use orc_stripe_reader::{IndexText, StripeView};
 
-/// A stripe with its number, what the tail tells of its columns, and where these and their row indexes stand.
+/// A stripe with its number, the statistics that the tail has of its columns, and the places of their streams and row
+/// indexes.
 #[derive(Drop)]
 pub(crate) struct OpenStripe<'s, 'a> {
     pub number: usize,

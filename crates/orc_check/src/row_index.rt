@@ -1,4 +1,4 @@
-//! The row index of a column: an entry for each group of rows.
+//! Checks the row index of a column, which has an entry for each row group.
 ghost use Rattle.std.specs.Prelude.{◌≡◌, ◌<◌, ℕ, false, List, length, map, get_or, OnOk, IfOk};
 ghost use Rattle.orc_values.specs.Cells.{Cell};
 ghost use Rattle.orc_values.specs.Fits.{RowsFit};
@@ -28,7 +28,7 @@ use orc_values::Tree;
 use orc_wire::RowIndexEntry;
 use std::alloc::{AllocError, Global};
 
-/// What is counted of the cells before each group.
+/// Takes from each group the counts of the cells before it.
 fn counts_before(alloc: Global, groups: &[GroupFound]) -> Result<Vec<Counts>, AllocError>
     ensures { IfOk result (λ counts. counts.items ≡ map (λ (group : Group). group.before) groups.now) }
 {
@@ -39,7 +39,7 @@ fn counts_before(alloc: Global, groups: &[GroupFound]) -> Result<Vec<Counts>, Al
     Ok(counts)
 }
 
-/// Whether the positions of a group are right.
+/// Returns whether the positions of a group are right.
 fn is_right(right: &[bool], group: usize) -> bool
     ensures { result ≡ get_or right.now group false }
 {
@@ -49,7 +49,7 @@ fn is_right(right: &[bool], group: usize) -> bool
     }
 }
 
-/// Puts what is found of each group behind what was found before.
+/// Adds the findings of each group.
 fn check_groups(
     number: usize,
     column: usize,
@@ -85,8 +85,8 @@ fn check_groups(
     Ok(())
 }
 
-/// Puts what is found of a column's row index behind what was found before. Its groups are those of the rows where the
-/// index may have an entry for each; else they aren't looked at.
+/// Adds the findings of a column's row index. `groups` are those of the rows if the row index may have an entry for
+/// each of these; else they aren't used.
 pub(crate) fn check_index(
     alloc: Global,
     stripe: &OpenStripe<'_, '_>,

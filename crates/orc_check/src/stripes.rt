@@ -1,4 +1,4 @@
-//! A stripe of a file.
+//! Checks a stripe of a file.
 ghost use Rattle.std.specs.Prelude.{◌≡◌, ◌<◌, ◌≤◌, ◌⊎◌, length, OnOk, IfOk, IfErr, IfSome};
 ghost use Rattle.orc_io.specs.Leaves.{LeavesSource};
 ghost use Rattle.orc_tail.specs.Stripes.{AllBefore, most_bytes, stripe_at, stripes_length, stripe_bytes};
@@ -17,7 +17,7 @@ use orc_tail::{FileFault, Tail, stripe_fault};
 use orc_wire::Items;
 use std::alloc::Global;
 
-/// What the tail tells of a stripe, by its columns.
+/// Returns the statistics that the tail has of a stripe's columns.
 fn told_of(tail: &Tail, number: usize) -> &[Stat]
     ensures { result.now ≡ stripe_told tail.now number }
 {
@@ -27,8 +27,7 @@ fn told_of(tail: &Tail, number: usize) -> &[Stat]
     }
 }
 
-/// Puts what is found of the stripe with this number behind what was found before, and answers the statistics of its
-/// columns' cells.
+/// Adds the findings of stripe `number`, and returns the statistics of its columns' cells.
 pub(crate) fn check_stripe<S: Source>(
     alloc: Global,
     source: &mut S,

@@ -1,4 +1,4 @@
-//! Whether a column's row index is the one that a writer writes.
+//! Tests whether a column's row index is the one that a writer writes.
 ghost use Rattle.std.specs.Prelude.{◌≡◌, ◌<◌, ℕ, Some, List, length, true, IfOk};
 ghost use Rattle.orc_values.specs.Cells.{Cell};
 ghost use Rattle.orc_values.specs.Fits.{RowsFit};
@@ -16,12 +16,14 @@ use orc_row_index::{Walk, placed_streams, put_entry};
 use orc_values::Tree;
 use std::alloc::{AllocError, Global};
 
-/// Whether the bytes are the row index of these groups as it is written. It puts each entry and compares, so that it
-/// decodes none; nothing is found of a written index.
+/// Returns whether the bytes are the row index that is written of these groups. The call writes each entry and compares
+/// the bytes, so it decodes none. A written row index has no findings.
 ///
-/// The groups are those of cells that the column's own streams spell: a condition.
+/// The groups must be those of cells that the column's own streams spell.
 ///
-/// Refusal: want of memory.
+/// # Errors
+///
+/// `AllocError` if there is no memory.
 pub(crate) fn is_written(
     alloc: Global,
     tree: &Tree,
@@ -44,7 +46,7 @@ pub(crate) fn is_written(
     };
     let placed = placed_streams(tree, streams);
     let mut walk = Walk::start();
-    // one room for the bytes of all entries, and one for their positions
+    // one vector for the bytes of each entry, and one for its positions
     let mut entry = Vec::new(alloc);
     let mut room = Vec::new(alloc);
     let mut rest = bytes;
