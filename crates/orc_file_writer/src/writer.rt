@@ -66,7 +66,7 @@ pub struct Writer<W: Sink> {
 }
 
 impl<W: Sink> Writer<W> {
-    /// Returns how many bytes the output has taken since the writer was made, even if the writer has failed.
+    /// Returns how many bytes the output has taken from this writer, even if the writer has failed.
     pub fn written(&self) -> u64
         // Returns the writer's count of the bytes that its output has taken.
         ensures { result ≡ self.now.written }

@@ -17,16 +17,16 @@ pub fn row_laws()
     // Bytes are a file of at most one tail and one list of rows.
     ensures one { (bytes : List ℕ) (t u : Tail) (a b : List Cell) → FileIs bytes t a → FileIs bytes u b → (t ≡ u)
         × (a ≡ b) }
-    // If bytes have a first stripe, of those that a tail names, that has no rows, then these bytes are no file with
-    // this tail, whatever the rows.
+    // If a fault is, in some bytes, that of the first stripe without rows, of those that a tail names, then these bytes
+    // are no file with this tail, whatever the rows.
     ensures none { (bytes : List ℕ) (tail : Tail) (rows : List Cell) (fault : FileFault)
         → FirstRefused tail.schema bytes 0 tail.stripes fault → FileIs bytes tail rows → ⊥ }
     // If bytes are a file with a tail and rows, then cutting these rows by the stripes' numbers of rows gives the rows
     // of each stripe, in order.
     ensures cut { (bytes : List ℕ) (tail : Tail) (rows : List Cell) → FileIs bytes tail rows
         → AreOfStripes tail.schema bytes tail.stripes (cut_rows tail.stripes rows) }
-    // If the stripes that are listed have rows together, then cutting these rows by the stripes' numbers of rows and
-    // joining the parts again gives these rows.
+    // If rows are those of listed stripes in some bytes, joined in order, then cutting these rows by the stripes'
+    // numbers of rows and joining the parts again gives the same rows.
     ensures whole { (infos : List StripeInfo) (bytes : List ℕ) (s : Shape) (rows : List Cell)
         → HasRows s bytes infos rows
         → rows_together (cut_rows infos rows) ≡ rows }

@@ -35,10 +35,10 @@ pub fn load_stripe<S: Source>(
     requires within { AllBefore (S.size source.old) tail.now.stripes }
     requires most { stripes_length tail.now.stripes ≤ most_bytes }
     // If the tail has stripe `number`, and its stripes end within the source and have at most 2^40 bytes together, then
-    // the following holds. After a success `into` has as many bytes as the stripe, and they are the stripe's bytes if
-    // the source's bytes are known. The source has its former length, and the same is known of its bytes. Its count of
-    // failures rises with `SourceFailed`, and stays the same after a success and after `OutOfMemory`. `OutOfMemory`
-    // comes only if the capacity of `into` was less than the stripe's length.
+    // `into` has as many bytes as the stripe after a success, and they are the stripe's bytes if the source's bytes are
+    // known. The source has its former length, and the same is known of its bytes. Its count of failures rises with
+    // `SourceFailed`, and stays the same after a success and after `OutOfMemory`. `OutOfMemory` comes only if the
+    // capacity of `into` was less than the stripe's length.
     ensures loaded { LoadsStripe S.told S.size S.failures source.old source.new (stripe_at tail.now.stripes number)
         (vec_capacity into.old) into.new.items result }
     // If the tail has stripe `number`, and its stripes end within the source and have at most 2^40 bytes together, then

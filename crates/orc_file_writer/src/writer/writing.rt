@@ -46,13 +46,13 @@ impl<W: Sink> Writer<W> {
         options: Options,
         out: W,
     ) -> Result<Writer<W>, (FileFault, W)>
-        // If the writer is made, then no row has been pushed to it, and its output has got exactly `ORC` if the
+        // If the writer is made, then no row has been pushed to it, and its output has got exactly `ORC` from it if the
         // output's bytes are known.
         ensures pushed { IfOk result (λ w. HasPushed (progress W.told w) (W.told out) []) }
         // If the writer is made, then it has `schema` and `options`, and has not failed.
         ensures made { IfOk result (λ w. (w.schema ≡ schema) × (w.options ≡ options) × (w.failed ≡ false)) }
-        // If the writer is made and the output's bytes are known, then the writer counts as many bytes as the
-        // output has got.
+        // If the writer is made and the output's bytes are known, then the writer counts as many bytes as the output
+        // has got from it.
         ensures taken { IfOk result (λ w. HasTaken (W.told out) (W.told w.out) w.written) }
 
         // An error is `WriteFailed` or `OutOfMemory`.
@@ -351,8 +351,8 @@ impl<W: Sink> Writer<W> {
     /// Those of `push`.
     pub fn push_owned(&mut self, row: Row<'static>) -> Result<(), FileFault>
         // If a list of rows has been pushed to the writer and this push succeeds, then the list with `row` added at its
-        // end has been pushed: if the output's bytes are known, it has got exactly `ORC` and the full stripes of these
-        // rows since the writer was made, and the writer keeps the rows after these stripes.
+        // end has been pushed: if the output's bytes are known, it has got from the writer exactly `ORC` and the full
+        // stripes of these rows, and the writer keeps the rows after these stripes.
         ensures pushed { AddsRow (progress W.told self.old) (progress W.told self.new) (view row.entry) result }
         // The writer keeps its schema and its options. An error is `Failed`, `RowShape`, `Limit`, `WriteFailed` or
         // `OutOfMemory`. `Failed` comes if and only if the writer had failed before this push. If it had not failed,
@@ -394,8 +394,8 @@ impl<W: Sink> Writer<W> {
     /// - `OutOfMemory` if there is no memory.
     pub fn push(&mut self, row: &Row<'_>) -> Result<(), FileFault>
         // If a list of rows has been pushed to the writer and this push succeeds, then the list with `row` added at its
-        // end has been pushed: if the output's bytes are known, it has got exactly `ORC` and the full stripes of these
-        // rows since the writer was made, and the writer keeps the rows after these stripes.
+        // end has been pushed: if the output's bytes are known, it has got from the writer exactly `ORC` and the full
+        // stripes of these rows, and the writer keeps the rows after these stripes.
         ensures pushed { AddsRow (progress W.told self.old) (progress W.told self.new) (view row.now) result }
         // The writer keeps its schema and its options. An error is `Failed`, `RowShape`, `Limit`, `WriteFailed` or
         // `OutOfMemory`. `Failed` comes if and only if the writer had failed before this push. If it had not failed,

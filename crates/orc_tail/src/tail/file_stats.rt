@@ -104,7 +104,7 @@ pub fn file_statistics(
     ensures few { OnOk result ((c : ℕ) → c < width schema.now
         → sum_by (λ (s : Stat). s.count) (column_stats c stats.now) ≤ 2 ^ 62) }
     // If each statistic of a stripe is of its column's kind, then an error is `OutOfMemory` or `CountTooLarge`, and
-    // `CountTooLarge` comes only if for a column of `schema` the counts of values in the stripes' statistics are
+    // `CountTooLarge` comes only if for some column of `schema` the counts of values in the stripes' statistics are
     // together more than 2^62.
     ensures fault { IfErr result (λ e. (e ≡ fault.OutOfMemory)
         ⊎ ((e ≡ fault.CountTooLarge) × (c : ℕ) × (c < width schema.now)
