@@ -19,7 +19,7 @@ use std::alloc::Global;
 pub struct OrcFile<S: Source> {
     pub(crate) source: S,
     pub(crate) tail: Tail,
-    /// The cap: the tail's three parts have at most so many bytes together, and so has each stripe that is read.
+    /// The greatest number of bytes of the tail's three parts together, and of each stripe that is read.
     pub(crate) cap: u64,
     ghost within: { AllBefore (S.size source) tail.stripes } by { Prim.hlevel props },
     ghost bytes: { stripes_length tail.stripes ≤ most_bytes },

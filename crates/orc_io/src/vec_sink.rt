@@ -51,8 +51,8 @@ impl Sink for VecSink {
         // A write that fails raises the sink's count of failures by one. A write that succeeds leaves the count as it
         // is.
         ensures failures { self.new.failures ≡ failures_after result self.old.failures }
-        // A write succeeds if the capacity of the sink's vector is at least the vector's length and the length of `bytes`
-        // together. A write fails only if the capacity is less than these two lengths together.
+        // A write succeeds if the capacity of the sink's vector is at least the vector's length and the length of
+        // `bytes` together. A write fails only if the capacity is less than these two lengths together.
         ensures full { OnErr result (vec_capacity self.old.bytes < vec_len self.old.bytes + length bytes.now) }
         ensures succeeds { vec_len self.old.bytes + length bytes.now ≤ vec_capacity self.old.bytes → IsOk result }
         // A write doesn't lower the capacity of the sink's vector.

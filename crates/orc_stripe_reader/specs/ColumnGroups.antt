@@ -59,13 +59,14 @@ Leads x c t groups below =
     (s : Shape) (count : ℕ) (rows : List Cell) (firsts : List ℕ) (here : List Cell)
     → ComesNext s x count rows firsts c t here groups → AreGroupsBelow t here groups below
 
--- a statement holds for all rows that the columns spell, with a type t over `groups` from number c on
+-- a statement holds for all rows that the columns spell, if the columns of type t from number c on have these groups
 abbrev pub InRows : (Shape → List Cell → List ℕ → Type 0) → (ℕ → Streams) → ℕ → Shape → CellGroups → Type 0
 InRows so x c t groups =
     (s : Shape) (count : ℕ) (rows : List Cell) (firsts : List ℕ) (here : List Cell)
     → ComesNext s x count rows firsts c t here groups → so s rows firsts
 
--- a statement holds for all rows that the columns spell, with the fields fs over `groups` from number c on
+-- a statement holds for all rows that the columns spell, if the columns of the fields fs from number c on have these
+-- groups
 abbrev pub InStructs : (Shape → List Cell → List ℕ → Type 0) → (ℕ → Streams) → ℕ → Fields → CellGroups → Type 0
 InStructs so x c fs groups =
     (s : Shape) (count : ℕ) (rows : List Cell) (firsts : List ℕ) (structs : List (List Cell))

@@ -135,8 +135,8 @@ impl<'a> StripeView<'a> {
         }
     }
 
-    /// Reads the rows of the stripe. Their texts and byte strings are slices of the stripe's bytes. No number read from
-    /// the stripe decides how much memory is allocated.
+    /// Reads the rows of the stripe (ORC specification, "Stripes", "Column Encodings"). Their texts and byte strings
+    /// are slices of the stripe's bytes. No number read from the stripe decides how much memory is allocated.
     ///
     /// # Errors
     ///
@@ -179,7 +179,7 @@ impl<'a> StripeView<'a> {
             → RowsFault self.now.schema (columns_of self.now.footer self.now.bytes)
             self.now.info.number_of_rows cause) }
     {
-        // for the proof, which knows that the bytes have the footer where a field is used
+        // for the proof, which learns that the bytes have the footer when a field is used
         let _ = &self.schema;
         match self.cursor(alloc) {
             Ok(cursor) => match cursor.rest() {

@@ -188,20 +188,20 @@ pub fn write_stripe(
 ) -> Result<StripeOut, StripeFault>
     requires fit { RowsFit schema.now (views rows.now) }
     requires few { AreFew schema.now (views rows.now) }
-    // If each row fits `schema` and no column has more than 2,147,483,647 cells, then the written bytes are, with the
-    // returned `info`, a stripe of exactly `rows`: they have a valid footer, and each column's streams spell exactly
-    // the column's cells.
+    // If each row fits `schema`, no column has more than 2,147,483,647 cells and the call succeeds, then the written
+    // bytes are, with the returned `info`, a stripe of exactly `rows`: they have a valid footer, and each column's
+    // streams spell exactly the column's cells.
     ensures stripe { IfOk result (λ out. IsStripe schema.now out.info out.bytes.items (views rows.now)) }
-    // If each row fits `schema` and no column has more than 2,147,483,647 cells, then the written bytes are laid out by
-    // the writer's rules: first the row indexes of all columns if the stride is above 0, next the streams of all
-    // columns, those of each column in the order PRESENT, DATA, LENGTH and DICTIONARY_DATA, and last the canonical text
-    // of the footer. The rules fix encodings, dictionaries and runs, and leave a column's stream out if it has no
-    // bytes. The returned `info` has the lengths of these three parts, the number of rows, and the offset 0.
+    // If each row fits `schema`, no column has more than 2,147,483,647 cells and the call succeeds, then the written
+    // bytes are laid out by the writer's rules: first the row indexes of all columns if the stride is above 0, next the
+    // streams of all columns, those of each column in the order PRESENT, DATA, LENGTH and DICTIONARY_DATA, and last the
+    // canonical text of the footer. The rules fix encodings, dictionaries and runs, and leave a column's stream out if
+    // it has no bytes. The returned `info` has the lengths of these three parts, the number of rows, and the offset 0.
     ensures written { IfOk result
         (λ out. IsWrittenStripe options.now.rle options.now.stride schema.now
         (views rows.now) out.info out.bytes.items) }
-    // If each row fits `schema` and no column has more than 2,147,483,647 cells, then the returned `stats` have one
-    // statistic for each column, in the order of the columns, which is that of the column's cells.
+    // If each row fits `schema`, no column has more than 2,147,483,647 cells and the call succeeds, then the returned
+    // `stats` have one statistic for each column, in the order of the columns, which is that of the column's cells.
     ensures stats { IfOk result (λ out. HaveStats schema.now (views rows.now) (width schema.now) out.stats.items) }
     // If each row fits `schema` and no column has more than 2,147,483,647 cells, then the only error is `OutOfMemory`.
     ensures refused { IfErr result (λ fault. fault ≡ OutOfMemory) }

@@ -20,9 +20,9 @@ ghost use Rattle.orc_tail.specs.declared.tail.Tail.{Tail};
 /// of such a file. The tail's statistics are those of the rows, of each stripe and of the whole file. The options, the
 /// schema and the rows determine the bytes.
 pub fn written_laws()
-    // If an output has got the whole written file of some rows with a tail, as `Writer::finish` promises, and the output's
-    // bytes are known, then the bytes that it has got are laid out by the writer's rules, and they are a file with this
-    // tail and these rows.
+    // If an output has got the whole written file of some rows with a tail, as `Writer::finish` promises, and the
+    // output's bytes are known, then the bytes that it has got are laid out by the writer's rules, and they are a file
+    // with this tail and these rows.
     ensures read { (options : Options) (s : Shape) (tail : Tail) (first told : Option (List ℕ)) (rows : List Cell)
         → WroteWholeFile options s tail first told rows → (bytes : List ℕ) × (told ≡ appended first bytes)
         × IsWrittenFile options s tail bytes rows

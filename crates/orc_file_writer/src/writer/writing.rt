@@ -479,7 +479,8 @@ impl<W: Sink> Writer<W> {
         self.close()
     }
 
-    /// Writes the last stripe, if rows are left for it, and the tail. Returns the tail and the output.
+    /// Writes the last stripe, if rows are left for it, and the tail (ORC specification, "File Tail"). Returns the tail
+    /// and the output.
     ///
     /// # Errors
     ///
