@@ -18,8 +18,8 @@ pub struct Options {
 }
 
 impl Options {
-    /// Makes options for stripes of `stripe_rows` rows, with a row index that has an entry for each `stride` rows, or
-    /// without a row index if `stride` is 0.
+    /// Makes options for stripes of `stripe_rows` rows, with row indexes that have an entry for each group of `stride`
+    /// rows, or without row indexes if `stride` is 0.
     ///
     /// Returns `None` if `stripe_rows` is 0 or more than 2,147,483,647.
     pub fn new(rle: Rle, stride: u32, stripe_rows: u32) -> Option<Options>

@@ -42,7 +42,7 @@ pub enum FileFault {
     /// The stripes don't have as many rows together as the footer says.
     #[error("file 10 RowCount")]
     RowCount,
-    /// A limit is exceeded, or would be with the row that was pushed.
+    /// A limit is exceeded, or would be if the call went on.
     #[error("file 11 Limit")]
     Limit,
     /// The stripe with this number can't be read, for this reason.
