@@ -23,7 +23,7 @@ pub record IsBetween (low high : ℕ) (item : Item) : Type 0 where
   pub least : low ≤ item.number
   pub most : item.number < high
 
--- more fields behind the front, which make the member say v
+-- More fields after the front, which make the member say v.
 pub record AddsToFront {V : Type 0} (member : Member V) (low high : ℕ) (always : ℕ → Type 0)
     (base : ℕ) (before : List Item) (front added : List ℕ) (v : V) : Type 0 where
   pub more : List Item
@@ -38,7 +38,7 @@ pub record Canonical {V : Type 0} (member : Member V) : Type 1 where
   pub text : V → List ℕ
   -- its numbers have the bits that their types give them
   pub bounded : V → Type 0
-  -- the text holds all of v
+  -- the text contains all of v
   pub whole : V → Type 0
   -- the member's field numbers are low .. high - 1, and these are always written
   pub low : ℕ
@@ -175,15 +175,15 @@ module _ {V W : Type 0} (a : Member V) (b : Member W) (x : Canonical a) (y : Can
     read = both_read;
   }
 
--- the second is written where the first passes a test; elsewhere it must be as if no field spoke of it
+-- The second member is written if the first passes a test; else it must have its value for a missing field.
 module _ {V W : Type 0} (a : Member V) (b : Member W) (x : Canonical a) (y : Canonical b) (test : V → Bool)
     (apart : x.high ≤ y.low) where
-  -- where the test passes the text holds both; else it holds the first, and the second is what it is without a field
+  -- the text contains both members if the test passes; else the first, and the second has its value for a missing field
   abbrev pub WholeIf : Bool → V × W → Type 0
   WholeIf true v = x.whole v.0 × y.whole v.1
   WholeIf false v = x.whole v.0 × (v.1 ≡ b.start)
 
-  -- the second text stands behind the first where the test passes
+  -- the first text, and after it the second if the test passes
   abbrev pub text_if : Bool → V × W → List ℕ
   text_if true v = x.text v.0 ++ y.text v.1
   text_if false v = x.text v.0
@@ -211,7 +211,7 @@ module _ {V W : Type 0} (a : Member V) (b : Member W) (x : Canonical a) (y : Can
         shows = r.shows;
       }
 
-  -- two members, the second of which is written where the first passes the test
+  -- two members, the second of which is written if the first passes the test
   abbrev pub both_if : Canonical (a and b)
   both_if = record {
     text = λ v. text_if (test v.0) v;
@@ -261,7 +261,7 @@ module _ {V W : Type 0} (shape : FieldPairs V W) (m : Member V) (x : Canonical m
     read = λ base fields bytes w are says. x.read base fields bytes (shape.into w) are says;
   }
 
--- the text of a message is that message
+-- the text of a message spells that message
 pub spells_again : {C : Type 0} (member : Member C) (w : Canonical member) (required base : ℕ) (c : C)
     → w.bounded c
     → w.whole c

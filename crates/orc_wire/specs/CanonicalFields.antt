@@ -53,7 +53,7 @@ number_hears n item v e = at_number n item.number (eqb_is item.number n (cond_so
 pub bytes_hears : (n : ℕ) (item : Item) (b : List ℕ) → bytes_of_field n item ≡ Some b → IsBetween n (n + 1) item
 bytes_hears n item b e = at_number n item.number (eqb_is item.number n (cond_some (item.number == n) (as_bytes item.payload) b e)) item refl
 
--- a field of a payload, written shortly
+-- a field with this payload, in its shortest text
 abbrev pub item_at : ℕ → Payload → ℕ → Item
 item_at n payload place = record { number = n; place = place; payload = payload; text = field_text n payload }
 
@@ -104,7 +104,7 @@ shows_number n v place m before e =
 
 -- ---- what one field gives
 
--- a value that one field holds
+-- a value that one field contains
 pub record Single {V : Type 0} (n : ℕ) (part : FieldPart (Option V)) : Type 1 where
   pub payload : V → Payload
   pub bounded : V → Type 0
@@ -183,7 +183,7 @@ a_small n = record {
   read = λ place item p is gives. gives.1;
 }
 
--- a varint of 64 bits, whose sign is folded in by ZigZag (sint64)
+-- a signed number as a varint of 64 bits, by ZigZag (sint64)
 abbrev pub a_signed : (n : ℕ) → Single n (signed n)
 a_signed n = record {
   payload = λ v. varint (zig v);
@@ -199,7 +199,7 @@ a_signed n = record {
   read = λ place item p is e. signed_fits (2 ^ 64) p (number_in n item) e (number_fits n place item is);
 }
 
--- a varint of 32 bits, whose sign is folded in by ZigZag (sint32)
+-- a signed number as a varint of 32 bits, by ZigZag (sint32)
 abbrev pub a_small_signed : (n : ℕ) → Single n (small_signed n)
 a_small_signed n = record {
   payload = λ v. varint (zig v);
@@ -239,7 +239,7 @@ a_flag n = record {
   read = λ place item p is gives. some_top p;
 }
 
--- bytes behind their length (string or bytes)
+-- the length of the bytes, and the bytes (string or bytes)
 abbrev pub a_text : (n : ℕ) → Single n (bytes_part n)
 a_text n = record {
   payload = λ v. sized v;
@@ -296,7 +296,7 @@ module _ {C : Type 0} (members : Member C) (w : Canonical members) (required : �
   message_read item (Some b) p h =
       let is = h.2 in subst (λ (t : Option C). IfSome t w.bounded) (sym h.1) (w.read (inside item b) is.fields b h.0 is.are is.says)
 
-  -- the text of an embedded message, behind its length
+  -- the length of an embedded message's text, and that text
   abbrev pub a_message : Single n (message members required n)
   a_message = record {
     payload = λ c. sized (w.text c);

@@ -95,7 +95,7 @@ module _ {V : Type 0} (n : ℕ) (is : IsNumber n) (part : FieldPart (Option V)) 
       let given = s.read (base + length are.0) item says.1 are.3 says.3 in
       subst s.bounded (sym says.4) (either_fits s.bounded says.1 says.0 given old)
 
-  -- always, also where it is the default
+  -- always, also if it is the default
   abbrev pub written_always : (default : V) → s.bounded default → Canonical (last default part)
   written_always default fits = record {
     text = λ v. field_text n (s.payload v);
@@ -138,7 +138,7 @@ module _ {V : Type 0} (n : ℕ) (is : IsNumber n) (part : FieldPart (Option V)) 
       let given = s.read (base + length are.0) item says.1 are.3 says.3 in
       subst (λ (t : Option V). IfSome t s.bounded) (sym says.4) (some_fits s.bounded says.1 says.0 given old)
 
-  -- where it is known
+  -- if it is known
   abbrev pub text_if_known : Canonical (known part)
   text_if_known = record {
     text = known_text s.payload n;
@@ -270,7 +270,7 @@ same_next limit bytes place e f (inr p) (inl q) =
     absurd (no_varint p.0.front p.0.rest p.0.value q.1 (subst (λ (t : List ℕ). NoVarint t q.1) p.0.parts q.2) p.0.is)
 same_next limit bytes place e f (inr p) (inr q) = p.1 ∙ sym q.1
 
--- a good varint in front, so no fault
+-- bytes that begin with a valid varint have no fault there
 good_next : (limit : ℕ) (bytes front rest : List ℕ) (n place : ℕ) (e : WireFault)
     → FailsNext limit bytes place e → IsVarint front n → n < limit → bytes ≡ front ++ rest → ⊥
 good_next limit bytes front rest n place e (inl p) is lt parts = no_varint front rest n p.1 (subst (λ (t : List ℕ). NoVarint t p.1) parts p.2) is
@@ -400,7 +400,7 @@ pub kept_silent : (n : ℕ) (item : Item)
 kept_silent n item most (inl lt) = rw (le_no n item.number lt) refl
 kept_silent n item most (inr ge) = absurd (omega (arith, ge, most))
 
--- the field at another place
+-- the same field at another place
 abbrev pub field_moved : ℕ → Item → Item
 field_moved place item = record { number = item.number; place = place; payload = item.payload; text = item.text }
 
@@ -416,7 +416,7 @@ moved_field place at item is = record {
   at_place = refl;
 }
 
--- more fields behind the front, of number n or higher, whose bytes are kept as they are
+-- More fields after the front, with numbers from n on, whose bytes are kept as they are.
 record KeptBehind (n base : ℕ) (before : List Item) (front bytes : List ℕ) : Type 0 where
   more : List Item
   are : IsFields base (more ++ before) (front ++ bytes)
@@ -480,7 +480,7 @@ module _ (n : ℕ) (is : IsNumber n) where
     read = λ base fields bytes v are says. tt;
   }
 
--- what the fields of a message say that is kept are fields with kept numbers
+-- The bytes that the fields of a message keep are fields with kept numbers.
 pub says_kept : (n base : ℕ) (fields : List Item) (bytes kept : List ℕ)
     → IsFields base fields bytes → (every_value (kept_from n)).says fields kept → AreKept n kept
 says_kept n base [] bytes kept are e = record { fields = []; are = e; from = tt }
@@ -501,11 +501,11 @@ says_kept n base (item ∷ before) bytes kept are says =
           subst (λ (t : List ℕ). AreKept n t) (sym same) old
     ]
 
--- ---- a message that stands once, written where its text is not empty
+-- ---- a message that occurs once, written if its text is not empty
 
 module _ {C : Type 0} (members : Member C) (w : Canonical members) (required : ℕ)
     (there : (required ≡ 0) ⊎ w.always required) (n : ℕ) (is : IsNumber n) where
-  -- the text holds all of the message, and is not empty
+  -- the text contains all of the message, and is not empty
   abbrev pub IsShown : C → Type 0
   IsShown c = w.whole c × (w.text c ≡ [] → ⊥)
 
@@ -575,7 +575,7 @@ module _ {C : Type 0} (members : Member C) (w : Canonical members) (required : �
   only_read (item ∷ before) v says =
       only_joins says.0 says.1 v says.4 (only_read before says.0 says.2) (message_read members w required there n item (bytes_of_field n item) says.1 says.3)
 
-  -- an embedded message that may stand once, written where its text is not empty
+  -- an embedded message that may occur once, written if its text is not empty
   abbrev pub where_shown : Canonical (only members required n)
   where_shown = record {
     text = shown_text w.text n;
@@ -607,27 +607,27 @@ always_small n is = written_always n is (small n) (a_small n) 0 (lit< tt)
 abbrev pub always_text : (n : ℕ) → IsNumber n → Canonical (last [] (bytes_part n))
 always_text n is = written_always n is (bytes_part n) (a_text n) [] tt
 
--- optional uint64, written where it is known
+-- optional uint64, written if it is known
 abbrev pub known_number : (n : ℕ) → IsNumber n → Canonical (known (number_part n))
 known_number n is = text_if_known n is (number_part n) (a_number n)
 
--- optional uint32, written where it is known
+-- optional uint32, written if it is known
 abbrev pub known_small : (n : ℕ) → IsNumber n → Canonical (known (small n))
 known_small n is = text_if_known n is (small n) (a_small n)
 
--- optional sint64, written where it is known
+-- optional sint64, written if it is known
 abbrev pub known_signed : (n : ℕ) → IsNumber n → Canonical (known (signed n))
 known_signed n is = text_if_known n is (signed n) (a_signed n)
 
--- optional sint32, written where it is known
+-- optional sint32, written if it is known
 abbrev pub known_small_signed : (n : ℕ) → IsNumber n → Canonical (known (small_signed n))
 known_small_signed n is = text_if_known n is (small_signed n) (a_small_signed n)
 
--- optional bool, written where it is known
+-- optional bool, written if it is known
 abbrev pub known_flag : (n : ℕ) → IsNumber n → Canonical (known (flag n))
 known_flag n is = text_if_known n is (flag n) (a_flag n)
 
--- optional string or bytes, written where it is known
+-- optional string or bytes, written if it is known
 abbrev pub text_where_known : (n : ℕ) → IsNumber n → Canonical (known (bytes_part n))
 text_where_known n is = text_if_known n is (bytes_part n) (a_text n)
 
@@ -635,7 +635,7 @@ text_where_known n is = text_if_known n is (bytes_part n) (a_text n)
 abbrev pub each_as_text : (n : ℕ) → IsNumber n → Canonical (each (bytes_part n))
 each_as_text n is = for_each n is (bytes_part n) (a_text n)
 
--- repeated embedded messages, a field for each; a required member of theirs is always written
+-- repeated embedded messages, a field for each; a required member of such a message is always written
 abbrev pub each_message : {C : Type 0} (members : Member C) (w : Canonical members) (required : ℕ)
     → (required ≡ 0) ⊎ w.always required → (n : ℕ) → IsNumber n → Canonical (each (message members required n))
 each_message members w required there n is =

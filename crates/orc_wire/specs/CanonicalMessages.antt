@@ -1,5 +1,5 @@
 -- The canonical text of each message of ORC (orc_proto.proto), a line a member: which are always
--- written, and which where they are known.
+-- written, and which if they are known.
 use Rattle.std.specs.Prelude.{ℕ, ◌≡◌, refl, Bool, ◌==◌, ◌||◌}
 use Rattle.std.proofs.Common.{inl, inr, lit<, lit≤, ◌⊎◌}
 use Rattle.orc_wire.specs.Messages.{encoding, encoding_shape, stream, stream_shape, stripe_footer, stripe_footer_shape, post_script, post_script_shape}
@@ -74,7 +74,7 @@ stripe_footer_text = shaped_text stripe_footer_shape _ (both_members _ _
     (each_message stream stream_text 1 stream_complete 1 one)
     (each_message encoding encoding_text 1 encoding_complete 2 two) (lit≤ tt))
 
--- footerLength, compression, version, metadataLength, writerVersion where known, magic
+-- footerLength, compression, version, metadataLength, writerVersion if known, magic
 abbrev pub post_script_text : Canonical post_script
 post_script_text = shaped_text post_script_shape _ (both_members _ _ (always_number 1 one)
     (both_members _ _ (always_small 2 two)

@@ -19,26 +19,26 @@ field_text n payload = varint_text (n * 8 + wire payload) ++ payload_text payloa
 abbrev pub number_text : ℕ → ℕ → List ℕ
 number_text n v = field_text n (varint v)
 
--- a field with bytes, behind their length
+-- a field with the length of the bytes, and the bytes
 abbrev pub sized_text : ℕ → List ℕ → List ℕ
 sized_text n bytes = field_text n (sized bytes)
 
--- nothing where there are no bytes
+-- a field with bytes, or nothing if there are no bytes
 abbrev pub some_text : ℕ → List ℕ → List ℕ
 some_text n [] = []
 some_text n (b ∷ bytes) = sized_text n (b ∷ bytes)
 
--- a field where there is a value
+-- a field if there is a value, else nothing
 abbrev pub known_text : {V : Type 0} → (V → Payload) → ℕ → Option V → List ℕ
 known_text payload n None = []
 known_text payload n (Some v) = field_text n (payload v)
 
--- a field for each
+-- a field for each item
 abbrev pub list_text : {V : Type 0} → (V → Payload) → ℕ → List V → List ℕ
 list_text payload n [] = []
 list_text payload n (v ∷ vs) = field_text n (payload v) ++ list_text payload n vs
 
--- a message's text, or nothing where there is no message or its text is empty
+-- a field with the message's text, or nothing if there is no message or its text is empty
 abbrev pub shown_text : {C : Type 0} → (C → List ℕ) → ℕ → Option C → List ℕ
 shown_text inner n None = []
 shown_text inner n (Some c) = some_text n (inner c)
@@ -62,6 +62,6 @@ pub record IsFront (front bytes : List ℕ) : Type 0 where
   pub more : List ℕ
   pub parts : bytes ≡ front ++ more
 
--- what stood in front still does
+-- each front of the old bytes is a front of the new bytes
 abbrev pub KeepsFront : List ℕ → List ℕ → Type 0
 KeepsFront old new = (front : List ℕ) → IsFront front old → IsFront front new

@@ -8,12 +8,12 @@ use Rattle.orc_wire.specs.Members.{Member}
 use Rattle.orc_wire.specs.Spells.{number_in, bytes_of_field, Spells}
 use Rattle.orc_wire.specs.Parts.{inside}
 
--- what the last field gives that gives something
+-- the last value that a field gives
 abbrev pub newest : {V : Type 0} → (Item → Option V) → List Item → Option V
 newest f [] = None
 newest f (item ∷ before) = option_or (f item) (newest f before)
 
--- what all fields give, in their order
+-- the values that the fields give, in order
 abbrev pub in_order : {V : Type 0} → (Item → Option V) → List Item → List V
 in_order f [] = []
 in_order f (item ∷ before) = in_order f before ++ option_to_list (f item)
@@ -55,18 +55,18 @@ pub record JoinsSome {V : Type 0} (gives : Item → Option V → Type 0)
   pub are : GivesParts gives fields parts
   pub joined : values ≡ some_parts parts
 
--- a field with number n that holds bytes, and these
+-- a field with field number n and bytes, and these bytes
 abbrev pub with_field_bytes : ℕ → Item → Option (Item × List ℕ)
 with_field_bytes n item = option_map (λ b. (item, b)) (bytes_of_field n item)
 
--- one field with number n holds bytes, which spell the message
+-- exactly one field with field number n has bytes, and they spell the message
 pub record IsOnly {C : Type 0} (members : Member C) (required n : ℕ) (fields : List Item) (content : C) : Type 0 where
   pub item : Item
   pub bytes : List ℕ
   pub one : in_order (with_field_bytes n) fields ≡ (item, bytes) ∷ []
   pub spells : Spells members required (inside item bytes) bytes content
 
--- no such field, or one
+-- no field with field number n has bytes, or exactly one
 abbrev pub OnlyMessage : {C : Type 0} → Member C → ℕ → ℕ → List Item → Option C → Type 0
 OnlyMessage members required n fields None = in_order (with_field_bytes n) fields ≡ []
 OnlyMessage members required n fields (Some content) = IsOnly members required n fields content

@@ -20,7 +20,7 @@ use crate::items::Bytes;
 use crate::message::Message;
 use orc_bits::{put_varint, zigzag};
 
-/// The wire type of bytes behind their length.
+/// The wire type of bytes that follow their length.
 const LEN: u64 = 2;
 
 /// A number below this one is a varint of one byte.
@@ -63,7 +63,7 @@ fn put_raw(bytes: &[u8], out: &mut Vec<u8>) -> Result<(), WireFault>
     Ok(())
 }
 
-/// Appends bytes behind their length.
+/// Appends the length of the bytes, and the bytes.
 fn put_sized(bytes: &[u8], out: &mut Vec<u8>) -> Result<(), WireFault>
     ensures text { OnOk result (out.new.items ≡ out.old.items ++ payload_text (sized bytes.now)) }
     ensures fits { OnOk result (length bytes.now < 2 ^ 64) }
@@ -259,8 +259,8 @@ fn end_long(place: usize, out: &mut Vec<u8>) -> Result<(), WireFault>
     put_sized(&content, out)
 }
 
-/// Ends a field of bytes: what stands behind the byte at `place` gets its length there, for which
-/// it is moved only where the length takes more than that byte.
+/// Ends a field of bytes: writes the length of the bytes after the byte at `place` there. Moves
+/// these bytes only if the length takes more than that byte.
 #[inline(always)]
 fn end_sized(place: usize, out: &mut Vec<u8>) -> Result<(), WireFault>
     requires { place < length out.old.items }
@@ -277,8 +277,8 @@ fn end_sized(place: usize, out: &mut Vec<u8>) -> Result<(), WireFault>
     end_long(place, out)
 }
 
-/// Ends a field of bytes that began at `start`, or takes it back where nothing stands behind the
-/// byte at `place`.
+/// Ends a field of bytes that began at `start`, or removes it if no byte follows the one at
+/// `place`.
 #[inline(always)]
 fn end_some(start: usize, place: usize, out: &mut Vec<u8>) -> Result<(), WireFault>
     requires within { place < length out.old.items }
@@ -326,7 +326,7 @@ pub(crate) fn put_packed_u64(n: u32, numbers: &[u64], out: &mut Vec<u8>) -> Resu
     end_some(start, place, out)
 }
 
-/// Appends a message, or nothing where there is none or its text is empty.
+/// Appends a message as a field, or nothing if there is none or its text is empty.
 #[inline(always)]
 pub(crate) fn put_shown<M: Message>(
     n: u32,
@@ -349,7 +349,7 @@ pub(crate) fn put_shown<M: Message>(
     }
 }
 
-/// Appends a message as a field, also where its text is empty.
+/// Appends a message as a field, also if its text is empty.
 pub(crate) fn put_message<M: Message>(
     n: u32,
     message: &M,

@@ -1,4 +1,4 @@
-//! Writing fields, one after the other, behind what a vector holds.
+//! Appends fields to a vector, one after the other.
 ghost use Rattle.std.specs.Prelude.{◌≡◌, ℕ, ◌++◌, ◌^◌, ◌⊎◌, length, Err, IfErr, OnOk, OnErr};
 ghost use Rattle.orc_wire.specs.declared.fault.WireFault.TheVariants.{BadWireType, OutOfMemory};
 ghost use Rattle.orc_wire.specs.Fields.{IsField};

@@ -37,109 +37,116 @@ ghost use Rattle.orc_wire.specs.EncodingKinds.{is_dictionary};
 
 use crate::message::Message;
 
-/// No field begins another, so bytes have one list of fields at most; and whatever bytes stand, a
-/// field is in front of them or one fault says why not.
+/// No field begins another, so bytes are those of one list of fields at most. Any bytes begin with
+/// a field, or exactly one fault says why not.
 pub fn field_laws()
-    // No field begins another one, so at most one is in front of any bytes.
+    // If the same bytes begin with two fields, then the two fields are equal.
     ensures one_field { (place : ℕ) (a b : Item) (x y : List ℕ)
         → IsField place a → IsField place b → a.text ++ x ≡ b.text ++ y → a ≡ b }
-    // Bytes are those of one list of fields at most.
+    // If bytes are those of two lists of fields, then the two lists are equal.
     ensures one_list { (base : ℕ) (a b : List Item) (bytes : List ℕ)
         → IsFields base a bytes → IsFields base b bytes → a ≡ b }
-    // Where a fault says why no field is in front, none is.
+    // If a fault says why bytes don't begin with a field, then they don't begin with one.
     ensures none { (place : ℕ) (item : Item) (rest : List ℕ) (fault : WireFault)
         → NoField place (item.text ++ rest) fault → IsField place item → ⊥ }
-    // Where such a fault applies, no other one does.
+    // If two faults say why bytes don't begin with a field, then the two faults are equal.
     ensures one_fault { (place : ℕ) (bytes : List ℕ) (e f : WireFault)
         → NoField place bytes e → NoField place bytes f → e ≡ f }
-    // Whatever bytes stand, numbers below 256, a field is in front of them or a fault says why not.
+    // If all numbers of a list are below 256, then it begins with a field, or a fault says why not.
     ensures cover { (place : ℕ) (bytes : List ℕ)
         → AllBytes bytes → HasField place bytes ⊎ ((fault : WireFault) × NoField place bytes fault) }
 {}
 
-/// What the fields of a message say of each kind of member, and nothing else: the newest number or
-/// text of that field number, a list's parts or texts in their order, kept fields as they stood. Where
-/// 32 bits are wanted, each number of that field number has them.
+/// What the fields of a message say of each kind of member: the last number or text with the
+/// member's field number, the parts or texts of a list in order, the kept fields unchanged. If a
+/// member has 32 bits, then each number with its field number must be below 2^32.
 pub fn table_laws()
-    // A number with a default is the last one of its field, or the default where there is none.
+    // A number with a default is the last one with its field number, or the default if there is
+    // none.
     ensures number_last { (n default : ℕ) (fields : List Item) (v : ℕ)
         → (last default (number_part n)).says fields v ↔ (v ≡ unwrap_or (newest (number_in n) fields) default) }
-    // A number of 32 bits with a default is the same, and each number of its field has 32 bits.
+    // A number of 32 bits with a default is the last one with its field number, or the default if
+    // there is none, and each number with that field number is below 2^32.
     ensures small_last { (n default : ℕ) (fields : List Item) (v : ℕ)
         → (last default (small n)).says fields v
         ↔ ((v ≡ unwrap_or (newest (number_in n) fields) default) × AreSmall n fields) }
-    // A text with a default is the last one of its field, or the default where there is none.
+    // A text with a default is the last one with its field number, or the default if there is none.
     ensures text_last { (n : ℕ) (default : List ℕ) (fields : List Item) (v : List ℕ)
         → (last default (bytes_part n)).says fields v ↔ (v ≡ unwrap_or (newest (bytes_of_field n) fields) default) }
 
-    // A number of 32 bits that may be missing is the last one of its field, and each of them has 32
-    // bits.
+    // A number of 32 bits that may be missing is the last one with its field number, and each
+    // number with that field number is below 2^32.
     ensures small_known { (n : ℕ) (fields : List Item) (v : Option ℕ)
         → (known (small n)).says fields v ↔ ((v ≡ newest (number_in n) fields) × AreSmall n fields) }
-    // A number that may be missing is the last one of its field, and is missing where there is
-    // none.
+    // A number that may be missing is the last one with its field number, and is missing if there
+    // is none.
     ensures number_known { (n : ℕ) (fields : List Item) (v : Option ℕ)
         → (known (number_part n)).says fields v ↔ (v ≡ newest (number_in n) fields) }
-    // A signed number is the one whose zigzag number is the last of its field, and is missing where
-    // there is none.
+    // A signed number is the one whose zigzag number is the last one with its field number, and is
+    // missing if there is none.
     ensures signed_known { (n : ℕ) (fields : List Item) (v : Option ℤ)
         → (known (signed n)).says fields v ↔ (option_map zig v ≡ newest (number_in n) fields) }
-    // A signed number of 32 bits is the same, and each number of its field has 32 bits.
+    // A signed number of 32 bits is the one whose zigzag number is the last one with its field
+    // number, and is missing if there is none; each number with that field number is below 2^32.
     ensures small_signed_known { (n : ℕ) (fields : List Item) (v : Option ℤ)
         → (known (small_signed n)).says fields v
         ↔ ((option_map zig v ≡ newest (number_in n) fields) × AreSmall n fields) }
-    // A flag says whether the last number of its field isn't 0, and is missing where there is none.
+    // A flag is true if the last number with its field number isn't 0, false if it is 0, and
+    // missing if there is none.
     ensures flag_known { (n : ℕ) (fields : List Item) (v : Option Bool)
         → (known (flag n)).says fields v ↔ (v ≡ option_map (λ k. not (k == 0)) (newest (number_in n) fields)) }
-    // A text that may be missing is the last one of its field, and is missing where there is none.
+    // A text that may be missing is the last one with its field number, and is missing if there is
+    // none.
     ensures text_known { (n : ℕ) (fields : List Item) (v : Option (List ℕ))
         → (known (bytes_part n)).says fields v ↔ (v ≡ newest (bytes_of_field n) fields) }
 
-    // A list of numbers is what each of its fields gives, packed or plain, joined in order.
+    // A list of numbers has the numbers of each field with its field number, packed or plain, in
+    // order.
     ensures packed_list { (limit n : ℕ) (fields : List Item) (v : List ℕ)
         → (every_value (packed limit n)).says fields v ↔ JoinsParts (packed limit n).gives fields v }
-    // A list of texts is all texts of its field, in order.
+    // A list of texts has all texts with its field number, in order.
     ensures texts { (n : ℕ) (fields : List Item) (v : List (List ℕ))
         → (each (bytes_part n)).says fields v ↔ (v ≡ in_order (bytes_of_field n) fields) }
-    // What is kept is all fields from a number on, as they stood, in order.
+    // Kept bytes are those of all fields with numbers from a number on, in order.
     ensures kept { (n : ℕ) (fields : List Item) (v : List ℕ)
         → (every_value (kept_from n)).says fields v ↔ (v ≡ kept_texts n fields) }
 {}
 
-/// Bytes spell one message at most, and where a fault applies none, and no other fault; whatever bytes
-/// stand, they spell a message or a fault applies. A list of messages in one has them in the order of
-/// their fields; a message that may stand once stands in one field at most. What is read has numbers
-/// of its fields' bits, and where its canonical text holds all of it, that text is it again.
+/// Any bytes spell exactly one message, or have exactly one fault. A list of messages in a message
+/// has them in the order of their fields; a message that may occur once is in one field at most.
+/// The numbers of a message that was read fit the bits of their fields. If its canonical text
+/// contains all of it, then this text spells the message again.
 pub fn message_laws<M: Message>()
-    // Bytes spell one message at most.
+    // If bytes spell two messages, then the two messages are equal.
     ensures one { (base : ℕ) (bytes : List ℕ) (a b : M)
         → Spells M.members M.REQUIRED base bytes a → Spells M.members M.REQUIRED base bytes b → a ≡ b }
-    // Where a fault applies, the bytes spell no message.
+    // If bytes have a fault, then they spell no message.
     ensures none { (base : ℕ) (bytes : List ℕ) (a : M) (fault : WireFault)
         → Faults M.members M.REQUIRED base bytes fault → Spells M.members M.REQUIRED base bytes a → ⊥ }
-    // Where a fault applies, no other fault does.
+    // If bytes have two faults, then the two faults are equal.
     ensures one_fault { (base : ℕ) (bytes : List ℕ) (e f : WireFault)
         → Faults M.members M.REQUIRED base bytes e → Faults M.members M.REQUIRED base bytes f → e ≡ f }
-    // Whatever bytes stand, numbers below 256, they spell a message or a fault applies.
+    // If all numbers of a list are below 256, then it spells a message or has a fault.
     ensures cover { (base : ℕ) (bytes : List ℕ)
         → AllBytes bytes
         → ((a : M) × Spells M.members M.REQUIRED base bytes a)
         ⊎ ((fault : WireFault) × Faults M.members M.REQUIRED base bytes fault) }
 
-    // A list of messages is all those that its fields hold, in order.
+    // A list of messages has the message of each field with its field number and wire type 2, in
+    // order.
     ensures each { (n : ℕ) (fields : List Item) (v : List M)
         → (each (message M.members M.REQUIRED n)).says fields v
         ↔ JoinsSome (message M.members M.REQUIRED n).gives fields v }
-    // A message that may stand once is that of the one field which holds it, and is missing where
-    // no field does.
+    // A message that may occur once is that of the only field with its field number and wire type
+    // 2, and is missing if there is no such field.
     ensures only { (n : ℕ) (fields : List Item) (v : Option M)
         → (only M.members M.REQUIRED n).says fields v ↔ OnlyMessage M.members M.REQUIRED n fields v }
 
-    // What was read has numbers of its fields' bits.
+    // If bytes spell a message, then its numbers fit the bits of their fields.
     ensures bounded { (base : ℕ) (bytes : List ℕ) (a : M)
         → Spells M.members M.REQUIRED base bytes a → M.canonical.bounded a }
-    // Where the canonical text of what was read holds all of it and has fewer than 2^64 bytes, that
-    // text is it again, wherever it stands.
+    // If the canonical text of a message that was read contains all of it and has fewer than 2^64
+    // bytes, then this text spells the message, at any place.
     ensures again { (base place : ℕ) (bytes : List ℕ) (a : M)
         → Spells M.members M.REQUIRED base bytes a
         → M.canonical.whole a
@@ -147,51 +154,57 @@ pub fn message_laws<M: Message>()
         → Spells M.members M.REQUIRED place (M.canonical.text a) a }
 {}
 
-/// When a message's canonical text holds all of it, so that it reads back: always, but for an
-/// encoding's dictionary size, which is written for dictionary kinds alone, and for kept bytes, which
-/// must be fields with kept numbers, and for a record of statistics, which is written where one of
-/// its parts is known. What is read keeps such fields; and whether all of them have a higher number is
-/// decided.
+/// When the canonical text of a message contains all of it, so that it reads back: always, with
+/// three exceptions. The dictionary size of an encoding is written for dictionary kinds only. Kept
+/// bytes must be fields with kept numbers. A record of statistics is written only if one of its
+/// parts is known. A message that was read keeps such fields, and it is decided whether they all
+/// have numbers from a higher one on.
 pub fn whole_laws()
-    // A stream's canonical text holds all of it.
+    // The canonical text of a stream contains all of it.
     ensures stream { (m : StreamMsg) → stream_text.whole m }
-    // An encoding's text holds all of it where its kind is a dictionary's or its dictionary size is
-    // 0.
+    // If the kind of an encoding is a dictionary's or its dictionary size is 0, then its canonical
+    // text contains all of it.
     ensures encoding { (m : Encoding) → (is_dictionary m.kind ≡ false → m.dictionary_size ≡ 0) → encoding_text.whole m }
-    // A stripe footer's text holds all of it where that of each of its encodings does.
+    // If the canonical text of each encoding of a stripe footer contains all of the encoding, then
+    // that of the stripe footer contains all of the stripe footer.
     ensures directory { (m : StripeFooter) → AllByRecursion encoding_text.whole m.columns → stripe_footer_text.whole m }
-    // A postscript's text holds all of it.
+    // The canonical text of a postscript contains all of it.
     ensures postscript { (m : PostScript) → post_script_text.whole m }
-    // A type's text holds all of it where what it keeps is fields above 3.
+    // If the bytes that a type keeps are fields with numbers above 3, then its canonical text
+    // contains all of it.
     ensures type_of_kept { (m : TypeMsg) → AreKept 4 m.kept → type_text.whole m }
-    // A type that was read keeps only fields above 3.
+    // If bytes spell a type, then the bytes that it keeps are fields with numbers above 3.
     ensures type_read { (base : ℕ) (bytes : List ℕ) (m : TypeMsg) → Spells type_msg 1 base bytes m → AreKept 4 m.kept }
 
-    // The text of a stripe's information, and that of an item of user metadata, holds all of it.
+    // The canonical text of a stripe's information, and that of an item of user metadata, contains
+    // all of it.
     ensures stripe { (m : StripeInfo) → stripe_info_text.whole m }
     ensures pair { (m : UserMetadataItem) → user_metadata_text.whole m }
-    // A footer's text holds all of it where those of its statistics do, where its types keep only
-    // fields above 3, and it only fields above 9.
+    // If the canonical texts of the statistics of a footer contain all of them, its types keep only
+    // fields with numbers above 3, and the footer keeps only fields with numbers above 9, then the
+    // footer's canonical text contains all of it.
     ensures footer_of_kept { (m : Footer)
         → AllByRecursion (λ t. AreKept 4 t.kept) m.types
         → AllByRecursion column_stats_text.whole m.statistics
         → AreKept 10 m.kept
         → footer_text.whole m }
-    // A footer that was read keeps only fields above 9, and its types keep only fields above 3.
+    // If bytes spell a footer, then it keeps only fields with numbers above 9, and its types keep
+    // only fields with numbers above 3.
     ensures footer_read { (base : ℕ) (bytes : List ℕ) (m : Footer)
         → Spells footer 0 base bytes m → AreKept 10 m.kept × AllByRecursion (λ t. AreKept 4 t.kept) m.types }
-    // Of bytes that are kept fields it is decided whether all have numbers from another one on.
+    // If bytes are fields with numbers from one number on, then it is decided whether they all have
+    // numbers from another number on.
     ensures kept_or_not { (m n : ℕ) (bytes : List ℕ) → AreKept m bytes → AreKept n bytes ⊎ (AreKept n bytes → ⊥) }
 
-    // The text of a record of statistics holds all of it, of each of the six kinds.
+    // The canonical text of a record of statistics, of each of the six kinds, contains all of it.
     ensures integers { (m : IntegerStatistics) → integer_stats_text.whole m }
     ensures strings { (m : StringStatistics) → string_stats_text.whole m }
     ensures buckets { (m : BucketStatistics) → bucket_stats_text.whole m }
     ensures dates { (m : DateStatistics) → date_stats_text.whole m }
     ensures binaries { (m : BinaryStatistics) → binary_stats_text.whole m }
     ensures collections { (m : CollectionStatistics) → collection_stats_text.whole m }
-    // The text of a column's statistics holds all of them where none of their records has an empty
-    // text.
+    // If no record of a column's statistics has an empty canonical text, then the canonical text of
+    // the column's statistics contains all of them.
     ensures column { (m : ColumnStats)
         → IfSome m.int_statistics (λ s. integer_stats_text.text s ≡ [] → ⊥)
         → IfSome m.string_statistics (λ s. string_stats_text.text s ≡ [] → ⊥)
@@ -200,34 +213,42 @@ pub fn whole_laws()
         → IfSome m.binary_statistics (λ s. binary_stats_text.text s ≡ [] → ⊥)
         → IfSome m.collection_statistics (λ s. collection_stats_text.text s ≡ [] → ⊥)
         → column_stats_text.whole m }
-    // A record of integers has a text where its minimum, its maximum or its sum is known.
+    // If the minimum, the maximum or the sum of a record of integers is known, then its canonical
+    // text is not empty.
     ensures integer_shown { (m : IntegerStatistics)
         → IsSome m.minimum ⊎ (IsSome m.maximum ⊎ IsSome m.sum) → integer_stats_text.text m ≡ [] → ⊥ }
-    // A record of strings has a text where its minimum, its maximum or its sum is known.
+    // If the minimum, the maximum or the sum of a record of strings is known, then its canonical
+    // text is not empty.
     ensures string_shown { (m : StringStatistics)
         → IsSome m.minimum ⊎ (IsSome m.maximum ⊎ IsSome m.sum) → string_stats_text.text m ≡ [] → ⊥ }
-    // A record of buckets has a text where it has a count, and all are below 2^64.
+    // If a record of buckets has a count, and all its counts are below 2^64, then its canonical
+    // text is not empty.
     ensures bucket_shown { (m : BucketStatistics)
         → AreBelow (2 ^ 64) m.count → (m.count ≡ [] → ⊥) → bucket_stats_text.text m ≡ [] → ⊥ }
-    // A record of dates has a text where its minimum or its maximum is known.
+    // If the minimum or the maximum of a record of dates is known, then its canonical text is not
+    // empty.
     ensures date_shown { (m : DateStatistics) → IsSome m.minimum ⊎ IsSome m.maximum → date_stats_text.text m ≡ [] → ⊥ }
-    // A record of byte strings has a text where its sum is known.
+    // If the sum of a record of byte strings is known, then its canonical text is not empty.
     ensures binary_shown { (m : BinaryStatistics) → IsSome m.sum → binary_stats_text.text m ≡ [] → ⊥ }
-    // A record of collections has a text where its least, most or total number of children is
-    // known.
+    // If the least, the greatest or the total number of children of a record of collections is
+    // known, then its canonical text is not empty.
     ensures collection_shown { (m : CollectionStatistics)
         → IsSome m.min_children ⊎ (IsSome m.max_children ⊎ IsSome m.total_children)
         → collection_stats_text.text m ≡ [] → ⊥ }
-    // The text of a stripe's statistics holds all of them where that of each column's does.
+    // If the canonical text of each column's statistics contains all of them, then that of the
+    // stripe's statistics contains all of these.
     ensures stripes { (m : StripeStatistics)
         → AllByRecursion column_stats_text.whole m.col_stats → stripe_stats_text.whole m }
-    // The text of the stripes' statistics holds all of them where that of each stripe's does.
+    // If the canonical text of each stripe's statistics contains all of them, then that of the
+    // file's metadata contains all of the metadata.
     ensures metadata { (m : Metadata) → AllByRecursion stripe_stats_text.whole m.stripe_stats → metadata_text.whole m }
-    // The text of an entry holds all of it where that of its statistics does, if it has any.
+    // If an entry has no statistics, or their canonical text contains all of them, then the entry's
+    // canonical text contains all of the entry.
     ensures entry { (m : RowIndexEntry) → IfSome m.statistics column_stats_text.whole → row_index_entry_text.whole m }
-    // A row index's text holds all of it where that of each entry does.
+    // If the canonical text of each entry of a row index contains all of the entry, then that of
+    // the row index contains all of the row index.
     ensures index { (m : RowIndexMsg) → AllByRecursion row_index_entry_text.whole m.entries → row_index_text.whole m }
-    // A column's statistics never have an empty text.
+    // The canonical text of a column's statistics is never empty.
     ensures column_shown { (m : ColumnStats) → column_stats_text.text m ≡ [] → ⊥ }
 {}
 
@@ -247,7 +268,7 @@ pub fn canonical_laws()
         → stripe_footer_text.text m ≡ list_text (λ s. sized (stream_text.text s)) 1 m.streams
         ++ list_text (λ e. sized (encoding_text.text e)) 2 m.columns }
     // A postscript's text is footer length, compression, version packed, metadata length, writer
-    // version where it is known, and magic, in fields 1, 2, 4, 5, 6 and 8000.
+    // version if it is known, and magic, in fields 1, 2, 4, 5, 6 and 8000.
     ensures postscript { (m : PostScript)
         → post_script_text.text m ≡ number_text 1 m.footer_length
         ++ (number_text 2 m.compression
@@ -262,32 +283,33 @@ pub fn canonical_laws()
         ++ (number_text 3 m.data_length ++ (number_text 4 m.footer_length ++ number_text 5 m.number_of_rows))) }
     // The text of an item of user metadata is its name and its value, in fields 1 and 2.
     ensures pair { (m : UserMetadataItem) → user_metadata_text.text m ≡ sized_text 1 m.name ++ sized_text 2 m.value }
-    // The text of a record of integers is the minimum, the maximum and the sum, each where it is
+    // The text of a record of integers is the minimum, the maximum and the sum, each if it is
     // known, in fields 1 to 3.
     ensures integers { (m : IntegerStatistics)
         → integer_stats_text.text m ≡ known_text (λ v. varint (zig v)) 1 m.minimum
         ++ (known_text (λ v. varint (zig v)) 2 m.maximum ++ known_text (λ v. varint (zig v)) 3 m.sum) }
-    // That of a record of strings is the same three, in the same fields, with the minimum and the
-    // maximum as texts.
+    // The text of a record of strings is the minimum and the maximum as texts and the sum, each if
+    // it is known, in fields 1 to 3.
     ensures strings { (m : StringStatistics)
         → string_stats_text.text m ≡ known_text (λ v. sized v) 1 m.minimum
         ++ (known_text (λ v. sized v) 2 m.maximum ++ known_text (λ v. varint (zig v)) 3 m.sum) }
-    // That of a record of buckets is its counts, packed in field 1.
+    // The text of a record of buckets is its counts, packed in field 1.
     ensures buckets { (m : BucketStatistics) → bucket_stats_text.text m ≡ packed_text 1 m.count }
-    // That of a record of dates is the minimum and the maximum, each where it is known, in fields 1
-    // and 2.
+    // The text of a record of dates is the minimum and the maximum, each if it is known, in fields
+    // 1 and 2.
     ensures dates { (m : DateStatistics)
         → date_stats_text.text m ≡ known_text (λ v. varint (zig v)) 1 m.minimum
         ++ known_text (λ v. varint (zig v)) 2 m.maximum }
-    // That of a record of byte strings is the sum in field 1, where it is known.
+    // The text of a record of byte strings is the sum in field 1, if it is known.
     ensures binaries { (m : BinaryStatistics) → binary_stats_text.text m ≡ known_text (λ v. varint (zig v)) 1 m.sum }
-    // That of a record of collections is the least, the most and the total number of children, each
-    // where it is known, in fields 1 to 3.
+    // The text of a record of collections is the least, the greatest and the total number of
+    // children, each if it is known, in fields 1 to 3.
     ensures collections { (m : CollectionStatistics)
         → collection_stats_text.text m ≡ known_text (λ v. varint v) 1 m.min_children
         ++ (known_text (λ v. varint v) 2 m.max_children ++ known_text (λ v. varint v) 3 m.total_children) }
-    // The text of a column's statistics is the number of values in field 1, the records with a text
-    // in fields 2, 4, 5, 7, 8 and 12, and in field 10, where it is known, whether a null is there.
+    // The text of a column's statistics is the number of values in field 1, the records whose text
+    // is not empty in fields 2, 4, 5, 7, 8 and 12, and in field 10, if it is known, whether there
+    // is a null.
     ensures column { (m : ColumnStats)
         → column_stats_text.text m ≡ number_text 1 m.number_of_values
         ++ (shown_text integer_stats_text.text 2 m.int_statistics
@@ -297,21 +319,21 @@ pub fn canonical_laws()
         ++ (shown_text binary_stats_text.text 8 m.binary_statistics
         ++ (known_text (λ v. varint (flag_number v)) 10 m.has_null
         ++ shown_text collection_stats_text.text 12 m.collection_statistics)))))) }
-    // That of a stripe's statistics is those of its columns, a field 1 each.
+    // The text of a stripe's statistics is those of its columns, a field 1 each.
     ensures stripes { (m : StripeStatistics)
         → stripe_stats_text.text m ≡ list_text (λ c. sized (column_stats_text.text c)) 1 m.col_stats }
-    // That of a file's metadata is the statistics of its stripes, a field 1 each.
+    // The text of a file's metadata is the statistics of its stripes, a field 1 each.
     ensures metadata { (m : Metadata)
         → metadata_text.text m ≡ list_text (λ s. sized (stripe_stats_text.text s)) 1 m.stripe_stats }
-    // That of an entry is its positions, packed in field 1, and its statistics in field 2, where
-    // they have a text.
+    // The text of an entry is its positions, packed in field 1, and its statistics in field 2, if
+    // their text is not empty.
     ensures entry { (m : RowIndexEntry)
         → row_index_entry_text.text m ≡ packed_text 1 m.positions ++ shown_text column_stats_text.text 2 m.statistics }
-    // That of a row index is its entries, a field 1 each.
+    // The text of a row index is its entries, a field 1 each.
     ensures index { (m : RowIndexMsg)
         → row_index_text.text m ≡ list_text (λ e. sized (row_index_entry_text.text e)) 1 m.entries }
     // A footer's text is header and content length, stripes, types, user metadata, number of rows,
-    // statistics, stride and, where known, writer, in fields 1 to 9, and then what it keeps.
+    // statistics, stride and, if known, writer, in fields 1 to 9, and then the bytes that it keeps.
     ensures file { (m : Footer)
         → footer_text.text m ≡ number_text 1 m.header_length
         ++ (number_text 2 m.content_length
@@ -322,7 +344,7 @@ pub fn canonical_laws()
         ++ (list_text (λ c. sized (column_stats_text.text c)) 7 m.statistics
         ++ (number_text 8 m.row_index_stride ++ (known_text (λ v. varint v) 9 m.writer ++ m.kept)))))))) }
     // A type's text is its kind, its subtypes packed and its field names, in fields 1 to 3, and
-    // what it keeps behind them.
+    // then the bytes that it keeps.
     ensures type_of { (m : TypeMsg)
         → type_text.text m ≡ number_text 1 m.kind
         ++ (packed_text 2 m.subtypes ++ (list_text (λ t. sized t) 3 m.field_names ++ m.kept)) }

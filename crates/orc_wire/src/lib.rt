@@ -1,5 +1,5 @@
-//! Protocol Buffers fields and the messages of ORC: each message is read where its bytes spell it and
-//! nowhere else, and written as its one canonical text.
+//! Protocol Buffers fields and the messages of ORC: a message is read if and only if the bytes
+//! spell it, and written as its one canonical text.
 #![tactic(auto)]
 
 mod canonical;

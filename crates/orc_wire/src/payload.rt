@@ -19,7 +19,7 @@ pub(crate) fn front_varint(bytes: &[u8]) -> Result<(u64, usize), BitFault>
     }
 }
 
-/// The bytes behind their length at the front, and how many bytes both take.
+/// The bytes after their length at the front, and how many bytes both take.
 #[inline(always)]
 pub(crate) fn front_sized(bytes: &[u8]) -> Result<(&[u8], usize), BitFault>
     ensures within { IfOk result (λ found. found.1 ≤ length bytes.now) }
