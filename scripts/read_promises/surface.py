@@ -27,7 +27,7 @@ PARTS = (
         (
             ("orc_bits", "width_of code_of fixed_at_least Width::digits width_laws zigzag unzigzag read_varint put_varint varint_laws"),
             ("orc_bits", "unpack pack packed_laws"),
-            ("orc_wire", "Fields::new Fields::next FieldWriter::new FieldWriter::put Message::read Message::put"),
+            ("orc_wire", "Fields::new Fields::next FieldWriter::new FieldWriter::put Message::read Message::is_message Message::put"),
             ("orc_rle", "Run::new Run::values RunCodec::next_run RunCodec::put_runs RunCodec::decode RunCodec::decode_all"),
             ("orc_rle", "RunU8::new RunU8::values ByteRuns::next_run ByteRuns::put_runs ByteRuns::decode"),
             ("orc_rle", "BitRuns::put_runs BitRuns::decode"),

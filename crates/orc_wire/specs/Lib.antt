@@ -7,6 +7,7 @@ pub mod Parts
 pub mod Kinds
 pub mod Table
 pub mod Messages
+pub mod Seen
 pub mod CanonicalText
 pub mod Canonical
 pub mod CanonicalFields

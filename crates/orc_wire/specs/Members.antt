@@ -26,6 +26,10 @@ pub record Member (V : Type 0) : Type 1 where
   pub cover : (item : Item) (v : V)
       → HoldsBytes item.payload → ((w : V) × steps item v w) ⊎ ((fault : WireFault) × refuses item v fault)
 
+-- If the value is v, then the member does not refuse the field.
+abbrev pub Passes : {V : Type 0} → Member V → Item → V → Type 0
+Passes member item v = (fault : WireFault) → member.refuses item v fault → ⊥
+
 module _ {V P : Type 0} (zero : V) (join : V → P → V → Type 0) (gives : Item → P → Type 0)
     (refuses : Item → V → WireFault → Type 0)
     (one_part : (item : Item) (a b : P) → gives item a → gives item b → a ≡ b)

@@ -9,7 +9,7 @@ use Rattle.orc_wire.specs.Fields.{Payload, varint, eight, four, sized, Item, fau
 use Rattle.orc_wire.specs.Members.{Member}
 use Rattle.orc_wire.specs.Spells.{number_in, bytes_of_field, Spells, Faults}
 
--- its number is not below the limit
+-- the number of the field is not below the limit
 pub record IsTooLarge (limit : ℕ) (n : ℕ) (item : Item) (fault : WireFault) : Type 0 where
   pub value : ℕ
   pub is : number_in n item ≡ Some value
@@ -25,7 +25,11 @@ AreVarints limit (n ∷ ns) bytes =
     × (bytes ≡ front ++ rest)
     × AreVarints limit ns rest
 
--- in front stands a varint of a number beyond the limit
+-- the bytes are varints below the limit
+abbrev pub HasVarints : ℕ → List ℕ → Type 0
+HasVarints limit bytes = (ns : List ℕ) × AreVarints limit ns bytes
+
+-- the bytes begin with a varint that is not below the limit
 pub record IsLargeVarint (limit : ℕ) (bytes : List ℕ) : Type 0 where
   pub front : List ℕ
   pub rest : List ℕ
@@ -34,13 +38,13 @@ pub record IsLargeVarint (limit : ℕ) (bytes : List ℕ) : Type 0 where
   pub large : limit ≤ value
   pub parts : bytes ≡ front ++ rest
 
--- after good ones comes what is no varint, or one past the limit
+-- what comes next is no varint, or one that is not below the limit
 abbrev pub FailsNext : ℕ → List ℕ → ℕ → WireFault → Type 0
 FailsNext limit bytes place fault =
     ((bytes ≡ [] → ⊥) × (why : BitFault) × NoVarint bytes why × (fault ≡ fault_at place why))
     ⊎ (IsLargeVarint limit bytes × (fault ≡ ValueRange place))
 
--- behind some varints something fails
+-- after valid varints comes what is no varint, or one that is not below the limit
 pub record FailsWithin (limit : ℕ) (bytes : List ℕ) (place : ℕ) (fault : WireFault) : Type 0 where
   pub values : List ℕ
   pub front : List ℕ
@@ -49,7 +53,7 @@ pub record FailsWithin (limit : ℕ) (bytes : List ℕ) (place : ℕ) (fault : W
   pub parts : bytes ≡ front ++ rest
   pub fails : FailsNext limit rest place fault
 
--- new is old with the numbers that the bytes spell at its end
+-- new is old and the numbers that the bytes spell
 pub record AppendsVarints (limit : ℕ) (old new bytes : List ℕ) : Type 0 where
   pub values : List ℕ
   pub are : AreVarints limit values bytes
@@ -62,14 +66,14 @@ PackedPart limit (eight b) ns = ns ≡ []
 PackedPart limit (four b) ns = ns ≡ []
 PackedPart limit (sized b) ns = AreVarints limit ns b
 
--- why what a field carries is no number or list of numbers below the limit
+-- why the payload is no number or list of numbers below the limit
 abbrev pub PackedFails : ℕ → Payload → ℕ → WireFault → Type 0
 PackedFails limit (varint v) place fault = (limit ≤ v) × (fault ≡ ValueRange place)
 PackedFails limit (eight b) place fault = ⊥
 PackedFails limit (four b) place fault = ⊥
 PackedFails limit (sized b) place fault = FailsWithin limit b place fault
 
--- where the bytes of a field begin
+-- the place at which the content of a field begins
 abbrev pub inside : Item → List ℕ → ℕ
 inside item bytes = item.place + (length item.text - length bytes)
 
@@ -84,12 +88,12 @@ module _ {C : Type 0} (members : Member C) (required : ℕ) where
   MessageFails n item None fault = ⊥
   MessageFails n item (Some b) fault = Faults members required (inside item b) b fault
 
-  -- why it is refused: its bytes spell none, or one was there before
+  -- why a field is refused: its bytes spell no message, or there was a message before
   abbrev pub OnlyFails : ℕ → Item → Option C → WireFault → Type 0
   OnlyFails n item None fault = MessageFails n item (bytes_of_field n item) fault
   OnlyFails n item (Some c) fault = (b : List ℕ) × (bytes_of_field n item ≡ Some b) × (fault ≡ RepeatedMessage item.place)
 
--- what was there, and what comes
+-- the message before, or the one that the field gives; not both
 abbrev pub JoinsOnly : {V : Type 0} → Option V → Option V → Option V → Type 0
 JoinsOnly None p v = v ≡ p
 JoinsOnly (Some c) p v = (p ≡ None) × (v ≡ Some c)

@@ -2,7 +2,7 @@
 use crate::canonical::{put_each, put_known_flag, put_number, put_shown};
 use crate::fault::WireFault;
 use crate::field::Field;
-use crate::inner::{take_each, take_only};
+use crate::inner::{take_each, take_only, test_each, test_only};
 use crate::items::Items;
 use crate::members::{take_known_flag, take_u64};
 use crate::message::Message;
@@ -28,13 +28,25 @@ pub struct ColumnStats {
     pub date_statistics: Option<DateStatistics>,
     /// What is known of a column of byte strings.
     pub binary_statistics: Option<BinaryStatistics>,
-    /// Whether a value is null, where that is known.
+    /// Whether a value is null, if that is known.
     pub has_null: Option<bool>,
     /// What is known of a column of lists or maps.
     pub collection_statistics: Option<CollectionStatistics>,
 }
 
+/// Which of the statistics of a column's message have occurred.
+#[derive(Clone, Copy, Debug)]
+pub struct SeenStatistics {
+    int_statistics: bool,
+    string_statistics: bool,
+    bucket_statistics: bool,
+    date_statistics: bool,
+    binary_statistics: bool,
+    collection_statistics: bool,
+}
+
 impl Message for ColumnStats {
+    ghost use Rattle.orc_wire.specs.Seen.{SeesStatistics};
     ghost use Rattle.orc_wire.specs.Messages.{column_statistics};
     ghost use Rattle.orc_wire.specs.CanonicalMessages.{column_stats_text, column_stats_complete};
 
@@ -44,7 +56,11 @@ impl Message for ColumnStats {
 
     ghost REQUIRED = { 0 };
 
+    ghost sees = { λ seen m. SeesStatistics seen m };
+
     const REQUIRED: u32 = 0;
+
+    type Seen = SeenStatistics;
 
     fn empty(_alloc: Global) -> ColumnStats {
         ColumnStats {
@@ -68,6 +84,26 @@ impl Message for ColumnStats {
         take_only(alloc, &mut self.binary_statistics, 8, field)?;
         take_known_flag(&mut self.has_null, 10, field);
         take_only(alloc, &mut self.collection_statistics, 12, field)
+    }
+
+    fn nothing_seen() -> SeenStatistics {
+        SeenStatistics {
+            int_statistics: false,
+            string_statistics: false,
+            bucket_statistics: false,
+            date_statistics: false,
+            binary_statistics: false,
+            collection_statistics: false,
+        }
+    }
+
+    fn test(seen: &mut SeenStatistics, field: &Field) -> Result<(), WireFault> {
+        test_only::<IntegerStatistics>(&mut seen.int_statistics, 2, field)?;
+        test_only::<StringStatistics>(&mut seen.string_statistics, 4, field)?;
+        test_only::<BucketStatistics>(&mut seen.bucket_statistics, 5, field)?;
+        test_only::<DateStatistics>(&mut seen.date_statistics, 7, field)?;
+        test_only::<BinaryStatistics>(&mut seen.binary_statistics, 8, field)?;
+        test_only::<CollectionStatistics>(&mut seen.collection_statistics, 12, field)
     }
 
     fn put_members(&self, out: &mut Vec<u8>) -> Result<(), WireFault> {
@@ -103,6 +139,8 @@ impl Message for StripeStatistics {
 
     const REQUIRED: u32 = 0;
 
+    type Seen = ();
+
     fn empty(alloc: Global) -> StripeStatistics {
         StripeStatistics {
             col_stats: Items::empty(alloc),
@@ -111,6 +149,14 @@ impl Message for StripeStatistics {
 
     fn take(&mut self, alloc: Global, field: &Field) -> Result<(), WireFault> {
         take_each(alloc, &mut self.col_stats, 1, field)
+    }
+
+    fn nothing_seen() -> () {
+        ()
+    }
+
+    fn test(_seen: &mut (), field: &Field) -> Result<(), WireFault> {
+        test_each::<ColumnStats>(1, field)
     }
 
     fn put_members(&self, out: &mut Vec<u8>) -> Result<(), WireFault> {
@@ -139,6 +185,8 @@ impl Message for Metadata {
 
     const REQUIRED: u32 = 0;
 
+    type Seen = ();
+
     fn empty(alloc: Global) -> Metadata {
         Metadata {
             stripe_stats: Items::empty(alloc),
@@ -147,6 +195,14 @@ impl Message for Metadata {
 
     fn take(&mut self, alloc: Global, field: &Field) -> Result<(), WireFault> {
         take_each(alloc, &mut self.stripe_stats, 1, field)
+    }
+
+    fn nothing_seen() -> () {
+        ()
+    }
+
+    fn test(_seen: &mut (), field: &Field) -> Result<(), WireFault> {
+        test_each::<StripeStatistics>(1, field)
     }
 
     fn put_members(&self, out: &mut Vec<u8>) -> Result<(), WireFault> {

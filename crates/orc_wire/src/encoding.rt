@@ -5,7 +5,7 @@ ghost use Rattle.orc_wire.specs.EncodingKinds.{is_dictionary as has_dictionary};
 use crate::canonical::put_number;
 use crate::fault::WireFault;
 use crate::field::Field;
-use crate::members::take_u32;
+use crate::members::{take_u32, test_small};
 use crate::message::Message;
 use std::alloc::Global;
 
@@ -53,6 +53,8 @@ impl Message for Encoding {
 
     const REQUIRED: u32 = 1;
 
+    type Seen = ();
+
     fn empty(_alloc: Global) -> Encoding {
         Encoding {
             kind: DIRECT,
@@ -63,6 +65,15 @@ impl Message for Encoding {
     fn take(&mut self, _alloc: Global, field: &Field) -> Result<(), WireFault> {
         take_u32(&mut self.kind, 1, field)?;
         take_u32(&mut self.dictionary_size, 2, field)
+    }
+
+    fn nothing_seen() -> () {
+        ()
+    }
+
+    fn test(_seen: &mut (), field: &Field) -> Result<(), WireFault> {
+        test_small(1, field)?;
+        test_small(2, field)
     }
 
     fn put_members(&self, out: &mut Vec<u8>) -> Result<(), WireFault> {

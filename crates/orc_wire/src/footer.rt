@@ -3,10 +3,10 @@ use crate::canonical::{put_each, put_kept, put_known_u32, put_number, put_text};
 use crate::column_stats::ColumnStats;
 use crate::fault::WireFault;
 use crate::field::Field;
-use crate::inner::take_each;
+use crate::inner::{take_each, test_each};
 use crate::items::{Bytes, Items};
 use crate::lists::{take_kept, take_text};
-use crate::members::{take_known_u32, take_u32, take_u64};
+use crate::members::{take_known_u32, take_u32, take_u64, test_small};
 use crate::message::Message;
 use crate::stripe_info::StripeInfo;
 use crate::type_msg::TypeMsg;
@@ -15,7 +15,7 @@ use std::alloc::Global;
 /// A pair of a file's user metadata (ORC specification, "File Tail", UserMetadataItem).
 #[derive(Debug, Drop)]
 pub struct UserMetadataItem {
-    /// Its name, in UTF-8 where the file is right.
+    /// Its name, in UTF-8 if the file is valid.
     pub name: Bytes,
     /// Its value.
     pub value: Bytes,
@@ -33,6 +33,8 @@ impl Message for UserMetadataItem {
 
     const REQUIRED: u32 = 0;
 
+    type Seen = ();
+
     fn empty(alloc: Global) -> UserMetadataItem {
         UserMetadataItem {
             name: Items::empty(alloc),
@@ -43,6 +45,14 @@ impl Message for UserMetadataItem {
     fn take(&mut self, _alloc: Global, field: &Field) -> Result<(), WireFault> {
         take_text(&mut self.name, 1, field)?;
         take_text(&mut self.value, 2, field)
+    }
+
+    fn nothing_seen() -> () {
+        ()
+    }
+
+    fn test(_seen: &mut (), _field: &Field) -> Result<(), WireFault> {
+        Ok(())
     }
 
     fn put_members(&self, out: &mut Vec<u8>) -> Result<(), WireFault> {
@@ -60,7 +70,7 @@ pub struct Footer {
     pub header_length: u64,
     /// The length of the file's header and stripes.
     pub content_length: u64,
-    /// Where the stripes stand, in their order.
+    /// Where each stripe is, in the order of the stripes.
     pub stripes: Items<StripeInfo>,
     /// The types, each before those below it.
     pub types: Items<TypeMsg>,
@@ -70,7 +80,7 @@ pub struct Footer {
     pub number_of_rows: u64,
     /// The statistics of the columns, in the order of the types.
     pub statistics: Items<ColumnStats>,
-    /// How many rows a group of the row index has; 0 where there is none.
+    /// How many rows a group of the row index has; 0 if there is no row index.
     pub row_index_stride: u32,
     /// The number of the program that wrote the file.
     pub writer: Option<u32>,
@@ -89,6 +99,8 @@ impl Message for Footer {
     ghost REQUIRED = { 0 };
 
     const REQUIRED: u32 = 0;
+
+    type Seen = ();
 
     fn empty(alloc: Global) -> Footer {
         Footer {
@@ -116,6 +128,19 @@ impl Message for Footer {
         take_u32(&mut self.row_index_stride, 8, field)?;
         take_known_u32(&mut self.writer, 9, field)?;
         take_kept(&mut self.kept, 10, field)
+    }
+
+    fn nothing_seen() -> () {
+        ()
+    }
+
+    fn test(_seen: &mut (), field: &Field) -> Result<(), WireFault> {
+        test_each::<StripeInfo>(3, field)?;
+        test_each::<TypeMsg>(4, field)?;
+        test_each::<UserMetadataItem>(5, field)?;
+        test_each::<ColumnStats>(7, field)?;
+        test_small(8, field)?;
+        test_small(9, field)
     }
 
     fn put_members(&self, out: &mut Vec<u8>) -> Result<(), WireFault> {

@@ -1,9 +1,9 @@
 //! Members that are texts, packed lists or kept fields: what one more field adds to them.
-ghost use Rattle.std.specs.Prelude.{◌≡◌, [], ◌^◌, ◌⊎◌, IfErr, OnOk};
+ghost use Rattle.std.specs.Prelude.{◌≡◌, ℕ, [], ◌+◌, ◌^◌, ◌⊎◌, IfErr, OnOk};
 ghost use Rattle.orc_wire.specs.declared.fault.WireFault.TheVariants.{OutOfMemory};
 ghost use Rattle.orc_wire.specs.FieldItem.{item_of};
-ghost use Rattle.orc_wire.specs.Parts.{FailsWithin, AppendsVarints};
-ghost use Rattle.orc_wire.specs.Kinds.{bytes_part, packed, kept_from, last, known, every_value, each};
+ghost use Rattle.orc_wire.specs.Parts.{FailsWithin, HasVarints, AppendsVarints};
+ghost use Rattle.orc_wire.specs.Kinds.{Allows, bytes_part, packed, kept_from, last, known, every_value, each};
 
 use crate::fault::{WireFault, fault_of};
 use crate::field::{Field, Value};
@@ -144,5 +144,41 @@ pub(crate) fn take_packed_u64(slot: &mut Items<u64>, n: u32, field: &Field) -> R
         Value::Varint(value) => slot.push(value),
         Value::Bytes(bytes) => take_wide_varints(slot, bytes, field.place),
         Value::Eight(_) | Value::Four(_) => Ok(()),
+    }
+}
+
+/// Whether the bytes are varints, none of which is above `most`.
+fn test_varints(bytes: &[u8], most: u64, place: usize) -> Result<(), WireFault>
+    ensures ok { OnOk result (HasVarints (most + 1) bytes.now) }
+    ensures fault { IfErr result (λ fault. FailsWithin (most + 1) bytes.now place fault) }
+{
+    let mut at = 0;
+    while at < bytes.len() {
+        let (_, rest) = bytes.split_at(at);
+        let (value, len) = match front_varint(rest) {
+            Ok(found) => found,
+            Err(fault) => return Err(fault_of(fault, place)),
+        };
+        if value > most {
+            return Err(WireFault::ValueRange(place));
+        }
+        at += len;
+    }
+    Ok(())
+}
+
+/// Whether a part of a packed list may be taken, of numbers that are `most` or less.
+pub(crate) fn test_packed(n: u32, most: u64, field: &Field) -> Result<(), WireFault>
+    ensures ok { (limit : ℕ) → limit ≡ most + 1 → OnOk result (Allows (packed limit n) (item_of field.now)) }
+    ensures fault { (limit : ℕ) → limit ≡ most + 1
+        → IfErr result (λ fault. (packed limit n).refuses (item_of field.now) fault) }
+{
+    if field.number != n {
+        return Ok(());
+    }
+    match field.value {
+        Value::Varint(value) if value > most => Err(WireFault::ValueRange(field.place)),
+        Value::Bytes(bytes) => test_varints(bytes, most, field.place),
+        _ => Ok(()),
     }
 }

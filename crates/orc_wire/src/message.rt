@@ -1,10 +1,10 @@
 //! What every message has: its members, reading it from bytes, and its canonical text.
-ghost use Rattle.std.specs.Prelude.{◌≡◌, ℕ, ◌++◌, ◌+◌, ◌⊎◌, IfOk, IfErr, OnOk, OnErr, MatchResult};
+ghost use Rattle.std.specs.Prelude.{◌≡◌, ℕ, ◌++◌, ◌+◌, ◌^◌, ◌<◌, ◌⊎◌, length, Result, Ok, Err, IfOk, IfErr, OnOk, OnErr, MatchResult};
 ghost use Rattle.orc_wire.specs.declared.fault.WireFault.{WireFault};
 ghost use Rattle.orc_wire.specs.declared.fault.WireFault.TheVariants.{OutOfMemory};
 ghost use Rattle.orc_wire.specs.FieldItem.{item_of};
-ghost use Rattle.orc_wire.specs.Members.{Member};
-ghost use Rattle.orc_wire.specs.Spells.{Spells, Faults};
+ghost use Rattle.orc_wire.specs.Members.{Member, Passes};
+ghost use Rattle.orc_wire.specs.Spells.{Spells, Faults, ReadAnswers};
 ghost use Rattle.orc_wire.specs.CanonicalText.{KeepsFront, sized_text};
 ghost use Rattle.orc_wire.specs.Canonical.{Canonical};
 
@@ -27,7 +27,13 @@ pub trait Message: Sized + Drop {
     // the number that must be there, or 0
     ghost REQUIRED: { ℕ };
 
+    // what is kept of a message's fields that are only tested
+    ghost sees: { Self.Seen → Self → Type 0 } = { λ _ _. Unit {0} };
+
     const REQUIRED: u32;
+
+    /// What `test` keeps of the fields before: which messages that may occur once have occurred.
+    type Seen: Copy;
 
     /// The message of no fields.
     fn empty(alloc: Global) -> Self
@@ -41,7 +47,25 @@ pub trait Message: Sized + Drop {
         // An error is `OutOfMemory`, or one with which a member refuses `field`, given the message before the call.
         ensures fault { IfErr result (λ e. (e ≡ OutOfMemory) ⊎ members.refuses (item_of field.now) self.old e) };
 
-    /// Appends the canonical text. After a refusal a part of it may stand there.
+    /// Returns what a test has seen before the first field.
+    fn nothing_seen() -> Self::Seen
+        // The result is what is kept of the message of no fields.
+        ensures { sees result members.start };
+
+    /// Tests one more field of a message, and notes in `seen` what has occurred. It takes no
+    /// memory.
+    fn test(seen: &mut Self::Seen, field: &Field) -> Result<(), WireFault>
+        // If `seen` was kept of a message and the call succeeds, then no member refuses `field` for this message.
+        ensures ok { (old : Self) → sees seen.old old → OnOk result (Passes members (item_of field.now) old) }
+        // If `seen` was kept of a message and the call succeeds, then afterwards `seen` is kept of each message that
+        // `field` makes of this message.
+        ensures keeps { (old new : Self) → sees seen.old old → members.steps (item_of field.now) old new
+            → OnOk result (sees seen.new new) }
+        // If `seen` was kept of a message, then an error is one with which a member refuses `field` for this message.
+        ensures fault { (old : Self) → sees seen.old old
+            → IfErr result (λ e. members.refuses (item_of field.now) old e) };
+
+    /// Appends the canonical text. After an error, `out` may end with a part of it.
     fn put_members(&self, out: &mut Vec<u8>) -> Result<(), WireFault>
         // If the call succeeds, then the message's canonical encoding is appended to `out`.
         ensures text { OnOk result (out.new.items ≡ out.old.items ++ canonical.text self.now) }
@@ -119,7 +143,31 @@ pub trait Message: Sized + Drop {
         Self::read_fields(alloc, Fields::new(bytes))
     }
 
-    /// Appends the canonical text of the message. A refusal, which is `OutOfMemory`, leaves `out` as
+    /// Whether the bytes spell a message: succeeds if `read` does, and else answers its fault, with
+    /// the same place. It keeps nothing of the message and takes no memory.
+    final fn is_message(bytes: &[u8]) -> Result<(), WireFault>
+        // If the call succeeds, then `bytes` encode a message.
+        ensures found { OnOk result ((message : Self) × Spells members REQUIRED 0 bytes.now message) }
+        // If `bytes` encode a message, then the call succeeds.
+        ensures only { (message : Self) → Spells members REQUIRED 0 bytes.now message → result ≡ Ok tt }
+        // An error is that of the first field from the left that is invalid or refused by a member; or, if there is no
+        // such field, `Missing`, because a required field isn't there. The place in an error, if the error has one, is
+        // that of the innermost field with the error, counted from the first byte of `bytes`.
+        ensures fault { IfErr result (λ e. Faults members REQUIRED 0 bytes.now e) }
+        // If `bytes` have a field that is invalid or refused by a member, or lack a required field, then the call
+        // fails with this fault: that of the first invalid or refused field from the left, with the place of the
+        // innermost field with the error; or `Missing`, if no field is invalid or refused.
+        ensures refused { (fault : WireFault) → Faults members REQUIRED 0 bytes.now fault → result ≡ Err fault }
+
+        // If `read` of the same bytes succeeds, then the call succeeds. If `read` fails, then it does so with
+        // `OutOfMemory`, or the call fails with the same error.
+        ensures as_read { (read : Result Self WireFault) → ReadAnswers members REQUIRED bytes.now read
+            → MatchResult read (λ _. result ≡ Ok tt) (λ e. (e ≡ OutOfMemory) ⊎ (result ≡ Err e)) }
+    {
+        test_fields::<Self>(bytes, 0)
+    }
+
+    /// Appends the canonical text of the message. An error, which is `OutOfMemory`, leaves `out` as
     /// it was.
     final fn put(&self, out: &mut Vec<u8>) -> Result<(), WireFault>
         // If the call succeeds, then the message's canonical encoding is appended to `out`.
@@ -143,8 +191,8 @@ pub trait Message: Sized + Drop {
         }
     }
 
-    /// Appends the message as a field of that number, behind the members of another one. A refusal,
-    /// which is `OutOfMemory`, leaves `out` as it was.
+    /// Appends the message as a field with that number. An error, which is `OutOfMemory`, leaves
+    /// `out` as it was.
     final fn put_within(&self, number: u32, out: &mut Vec<u8>) -> Result<(), WireFault>
         // If the call succeeds, then a field with `number` is appended to `out`: its key and the length of the
         // message's canonical encoding, each as the shortest varint, and that encoding.
@@ -164,5 +212,26 @@ pub trait Message: Sized + Drop {
                 Err(fault)
             }
         }
+    }
+}
+
+/// Whether the bytes are fields of a message, whose places count on from `place`.
+pub(crate) fn test_fields<M: Message>(bytes: &[u8], place: usize) -> Result<(), WireFault>
+    requires { place + length bytes.now < 2 ^ 64 }
+    ensures found { OnOk result ((message : M) × Spells M.members M.REQUIRED place bytes.now message) }
+    ensures fault { IfErr result (λ e. Faults M.members M.REQUIRED place bytes.now e) }
+{
+    let mut seen = M::nothing_seen();
+    let mut complete = M::REQUIRED == 0;
+    for next in (Fields { rest: bytes, place }) {
+        let field = next?;
+        M::test(&mut seen, &field)?;
+        let found = field.varint(M::REQUIRED).is_some();
+        complete = complete || found;
+    }
+    if complete {
+        Ok(())
+    } else {
+        Err(WireFault::Missing)
     }
 }

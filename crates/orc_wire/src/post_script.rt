@@ -3,8 +3,8 @@ use crate::canonical::{put_known_u32, put_number, put_packed_u32, put_text};
 use crate::fault::WireFault;
 use crate::field::Field;
 use crate::items::{Bytes, Items};
-use crate::lists::{take_packed, take_text};
-use crate::members::{take_known_u32, take_u32, take_u64};
+use crate::lists::{take_packed, take_text, test_packed};
+use crate::members::{take_known_u32, take_u32, take_u64, test_small};
 use crate::message::Message;
 use std::alloc::Global;
 
@@ -13,7 +13,7 @@ use std::alloc::Global;
 pub struct PostScript {
     /// How many bytes the footer has.
     pub footer_length: u64,
-    /// 0 where nothing is compressed.
+    /// 0 if nothing is compressed.
     pub compression: u32,
     /// The version of the format, as 0 and 11.
     pub version: Items<u32>,
@@ -37,6 +37,8 @@ impl Message for PostScript {
 
     const REQUIRED: u32 = 0;
 
+    type Seen = ();
+
     fn empty(alloc: Global) -> PostScript {
         PostScript {
             footer_length: 0,
@@ -55,6 +57,16 @@ impl Message for PostScript {
         take_u64(&mut self.metadata_length, 5, field);
         take_known_u32(&mut self.writer_version, 6, field)?;
         take_text(&mut self.magic, 8000, field)
+    }
+
+    fn nothing_seen() -> () {
+        ()
+    }
+
+    fn test(_seen: &mut (), field: &Field) -> Result<(), WireFault> {
+        test_small(2, field)?;
+        test_packed(4, u64::from(u32::MAX), field)?;
+        test_small(6, field)
     }
 
     fn put_members(&self, out: &mut Vec<u8>) -> Result<(), WireFault> {

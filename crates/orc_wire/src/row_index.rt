@@ -3,9 +3,9 @@ use crate::canonical::{put_each, put_packed_u64, put_shown};
 use crate::column_stats::ColumnStats;
 use crate::fault::WireFault;
 use crate::field::Field;
-use crate::inner::{take_each, take_only};
+use crate::inner::{take_each, take_only, test_each, test_only};
 use crate::items::Items;
-use crate::lists::take_packed_u64;
+use crate::lists::{take_packed_u64, test_packed};
 use crate::message::Message;
 use std::alloc::Global;
 
@@ -20,6 +20,8 @@ pub struct RowIndexEntry {
 }
 
 impl Message for RowIndexEntry {
+    ghost use Rattle.std.specs.Prelude.{◌≡◌};
+    ghost use Rattle.std.specs.Option.{is_some};
     ghost use Rattle.orc_wire.specs.Messages.{row_index_entry};
     ghost use Rattle.orc_wire.specs.CanonicalMessages.{row_index_entry_text, row_index_entry_complete};
 
@@ -29,7 +31,11 @@ impl Message for RowIndexEntry {
 
     ghost REQUIRED = { 0 };
 
+    ghost sees = { λ seen m. is_some m.statistics ≡ seen };
+
     const REQUIRED: u32 = 0;
+
+    type Seen = bool;
 
     fn empty(alloc: Global) -> RowIndexEntry {
         RowIndexEntry {
@@ -41,6 +47,15 @@ impl Message for RowIndexEntry {
     fn take(&mut self, alloc: Global, field: &Field) -> Result<(), WireFault> {
         take_packed_u64(&mut self.positions, 1, field)?;
         take_only(alloc, &mut self.statistics, 2, field)
+    }
+
+    fn nothing_seen() -> bool {
+        false
+    }
+
+    fn test(seen: &mut bool, field: &Field) -> Result<(), WireFault> {
+        test_packed(1, u64::MAX, field)?;
+        test_only::<ColumnStats>(seen, 2, field)
     }
 
     fn put_members(&self, out: &mut Vec<u8>) -> Result<(), WireFault> {
@@ -70,6 +85,8 @@ impl Message for RowIndexMsg {
 
     const REQUIRED: u32 = 0;
 
+    type Seen = ();
+
     fn empty(alloc: Global) -> RowIndexMsg {
         RowIndexMsg {
             entries: Items::empty(alloc),
@@ -78,6 +95,14 @@ impl Message for RowIndexMsg {
 
     fn take(&mut self, alloc: Global, field: &Field) -> Result<(), WireFault> {
         take_each(alloc, &mut self.entries, 1, field)
+    }
+
+    fn nothing_seen() -> () {
+        ()
+    }
+
+    fn test(_seen: &mut (), field: &Field) -> Result<(), WireFault> {
+        test_each::<RowIndexEntry>(1, field)
     }
 
     fn put_members(&self, out: &mut Vec<u8>) -> Result<(), WireFault> {

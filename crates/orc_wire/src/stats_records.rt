@@ -6,8 +6,8 @@ use crate::canonical::{
 use crate::fault::WireFault;
 use crate::field::Field;
 use crate::items::{Bytes, Items};
-use crate::lists::{take_known_text, take_packed_u64};
-use crate::members::{take_known_i32, take_known_i64, take_known_u64};
+use crate::lists::{take_known_text, take_packed_u64, test_packed};
+use crate::members::{take_known_i32, take_known_i64, take_known_u64, test_small};
 use crate::message::Message;
 use std::alloc::Global;
 
@@ -34,6 +34,8 @@ impl Message for IntegerStatistics {
 
     const REQUIRED: u32 = 0;
 
+    type Seen = ();
+
     fn empty(_alloc: Global) -> IntegerStatistics {
         IntegerStatistics {
             minimum: None,
@@ -46,6 +48,14 @@ impl Message for IntegerStatistics {
         take_known_i64(&mut self.minimum, 1, field);
         take_known_i64(&mut self.maximum, 2, field);
         take_known_i64(&mut self.sum, 3, field);
+        Ok(())
+    }
+
+    fn nothing_seen() -> () {
+        ()
+    }
+
+    fn test(_seen: &mut (), _field: &Field) -> Result<(), WireFault> {
         Ok(())
     }
 
@@ -81,6 +91,8 @@ impl Message for StringStatistics {
 
     const REQUIRED: u32 = 0;
 
+    type Seen = ();
+
     fn empty(_alloc: Global) -> StringStatistics {
         StringStatistics {
             minimum: None,
@@ -93,6 +105,14 @@ impl Message for StringStatistics {
         take_known_text(alloc, &mut self.minimum, 1, field)?;
         take_known_text(alloc, &mut self.maximum, 2, field)?;
         take_known_i64(&mut self.sum, 3, field);
+        Ok(())
+    }
+
+    fn nothing_seen() -> () {
+        ()
+    }
+
+    fn test(_seen: &mut (), _field: &Field) -> Result<(), WireFault> {
         Ok(())
     }
 
@@ -124,6 +144,8 @@ impl Message for BucketStatistics {
 
     const REQUIRED: u32 = 0;
 
+    type Seen = ();
+
     fn empty(alloc: Global) -> BucketStatistics {
         BucketStatistics {
             count: Items::empty(alloc),
@@ -132,6 +154,14 @@ impl Message for BucketStatistics {
 
     fn take(&mut self, _alloc: Global, field: &Field) -> Result<(), WireFault> {
         take_packed_u64(&mut self.count, 1, field)
+    }
+
+    fn nothing_seen() -> () {
+        ()
+    }
+
+    fn test(_seen: &mut (), field: &Field) -> Result<(), WireFault> {
+        test_packed(1, u64::MAX, field)
     }
 
     fn put_members(&self, out: &mut Vec<u8>) -> Result<(), WireFault> {
@@ -162,6 +192,8 @@ impl Message for DateStatistics {
 
     const REQUIRED: u32 = 0;
 
+    type Seen = ();
+
     fn empty(_alloc: Global) -> DateStatistics {
         DateStatistics {
             minimum: None,
@@ -172,6 +204,15 @@ impl Message for DateStatistics {
     fn take(&mut self, _alloc: Global, field: &Field) -> Result<(), WireFault> {
         take_known_i32(&mut self.minimum, 1, field)?;
         take_known_i32(&mut self.maximum, 2, field)
+    }
+
+    fn nothing_seen() -> () {
+        ()
+    }
+
+    fn test(_seen: &mut (), field: &Field) -> Result<(), WireFault> {
+        test_small(1, field)?;
+        test_small(2, field)
     }
 
     fn put_members(&self, out: &mut Vec<u8>) -> Result<(), WireFault> {
@@ -201,12 +242,22 @@ impl Message for BinaryStatistics {
 
     const REQUIRED: u32 = 0;
 
+    type Seen = ();
+
     fn empty(_alloc: Global) -> BinaryStatistics {
         BinaryStatistics { sum: None }
     }
 
     fn take(&mut self, _alloc: Global, field: &Field) -> Result<(), WireFault> {
         take_known_i64(&mut self.sum, 1, field);
+        Ok(())
+    }
+
+    fn nothing_seen() -> () {
+        ()
+    }
+
+    fn test(_seen: &mut (), _field: &Field) -> Result<(), WireFault> {
         Ok(())
     }
 
@@ -240,6 +291,8 @@ impl Message for CollectionStatistics {
 
     const REQUIRED: u32 = 0;
 
+    type Seen = ();
+
     fn empty(_alloc: Global) -> CollectionStatistics {
         CollectionStatistics {
             min_children: None,
@@ -252,6 +305,14 @@ impl Message for CollectionStatistics {
         take_known_u64(&mut self.min_children, 1, field);
         take_known_u64(&mut self.max_children, 2, field);
         take_known_u64(&mut self.total_children, 3, field);
+        Ok(())
+    }
+
+    fn nothing_seen() -> () {
+        ()
+    }
+
+    fn test(_seen: &mut (), _field: &Field) -> Result<(), WireFault> {
         Ok(())
     }
 

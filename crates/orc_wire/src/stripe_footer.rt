@@ -3,9 +3,9 @@ use crate::canonical::{put_each, put_number};
 use crate::encoding::Encoding;
 use crate::fault::WireFault;
 use crate::field::Field;
-use crate::inner::take_each;
+use crate::inner::{take_each, test_each};
 use crate::items::Items;
-use crate::members::{take_u32, take_u64};
+use crate::members::{take_u32, take_u64, test_small};
 use crate::message::Message;
 use std::alloc::Global;
 
@@ -50,6 +50,8 @@ impl Message for StreamMsg {
 
     const REQUIRED: u32 = 1;
 
+    type Seen = ();
+
     fn empty(_alloc: Global) -> StreamMsg {
         StreamMsg {
             kind: PRESENT,
@@ -63,6 +65,15 @@ impl Message for StreamMsg {
         take_u32(&mut self.column, 2, field)?;
         take_u64(&mut self.length, 3, field);
         Ok(())
+    }
+
+    fn nothing_seen() -> () {
+        ()
+    }
+
+    fn test(_seen: &mut (), field: &Field) -> Result<(), WireFault> {
+        test_small(1, field)?;
+        test_small(2, field)
     }
 
     fn put_members(&self, out: &mut Vec<u8>) -> Result<(), WireFault> {
@@ -95,6 +106,8 @@ impl Message for StripeFooter {
 
     const REQUIRED: u32 = 0;
 
+    type Seen = ();
+
     fn empty(alloc: Global) -> StripeFooter {
         StripeFooter {
             streams: Items::empty(alloc),
@@ -105,6 +118,15 @@ impl Message for StripeFooter {
     fn take(&mut self, alloc: Global, field: &Field) -> Result<(), WireFault> {
         take_each(alloc, &mut self.streams, 1, field)?;
         take_each(alloc, &mut self.columns, 2, field)
+    }
+
+    fn nothing_seen() -> () {
+        ()
+    }
+
+    fn test(_seen: &mut (), field: &Field) -> Result<(), WireFault> {
+        test_each::<StreamMsg>(1, field)?;
+        test_each::<Encoding>(2, field)
     }
 
     fn put_members(&self, out: &mut Vec<u8>) -> Result<(), WireFault> {

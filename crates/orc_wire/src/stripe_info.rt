@@ -33,6 +33,8 @@ impl Message for StripeInfo {
 
     const REQUIRED: u32 = 0;
 
+    type Seen = ();
+
     fn empty(_alloc: Global) -> StripeInfo {
         StripeInfo {
             offset: 0,
@@ -49,6 +51,14 @@ impl Message for StripeInfo {
         take_u64(&mut self.data_length, 3, field);
         take_u64(&mut self.footer_length, 4, field);
         take_u64(&mut self.number_of_rows, 5, field);
+        Ok(())
+    }
+
+    fn nothing_seen() -> () {
+        ()
+    }
+
+    fn test(_seen: &mut (), _field: &Field) -> Result<(), WireFault> {
         Ok(())
     }
 

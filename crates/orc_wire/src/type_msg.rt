@@ -3,8 +3,8 @@ use crate::canonical::{put_kept, put_number, put_packed_u32, put_texts};
 use crate::fault::WireFault;
 use crate::field::Field;
 use crate::items::{Bytes, Items};
-use crate::lists::{take_kept, take_packed, take_texts};
-use crate::members::take_u32;
+use crate::lists::{take_kept, take_packed, take_texts, test_packed};
+use crate::members::{take_u32, test_small};
 use crate::message::Message;
 use std::alloc::Global;
 
@@ -15,7 +15,7 @@ pub struct TypeMsg {
     pub kind: u32,
     /// The numbers of the types below it.
     pub subtypes: Items<u32>,
-    /// The names of a STRUCT's fields, in UTF-8 where the file is right.
+    /// The names of a STRUCT's fields, in UTF-8 if the file is valid.
     pub field_names: Items<Bytes>,
     /// The fields above 3 as they stood, each with its key, one after the other.
     pub kept: Bytes,
@@ -33,6 +33,8 @@ impl Message for TypeMsg {
 
     const REQUIRED: u32 = 1;
 
+    type Seen = ();
+
     fn empty(alloc: Global) -> TypeMsg {
         TypeMsg {
             kind: 0,
@@ -47,6 +49,15 @@ impl Message for TypeMsg {
         take_packed(&mut self.subtypes, 2, field)?;
         take_texts(alloc, &mut self.field_names, 3, field)?;
         take_kept(&mut self.kept, 4, field)
+    }
+
+    fn nothing_seen() -> () {
+        ()
+    }
+
+    fn test(_seen: &mut (), field: &Field) -> Result<(), WireFault> {
+        test_small(1, field)?;
+        test_packed(2, u64::from(u32::MAX), field)
     }
 
     fn put_members(&self, out: &mut Vec<u8>) -> Result<(), WireFault> {

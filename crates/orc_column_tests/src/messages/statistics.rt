@@ -191,3 +191,67 @@ fn check_only_sum(rt: &impl Abort, alloc: Global) -> Result<(), WireFault> {
     check_same(rt, "integers", &stats.int_statistics, &Some(integers));
     Ok(())
 }
+
+/// Texts of a row index's entry, and the fault of each, if it has one.
+static TESTED: [(&'static [u8], Option<WireFault>); 10] = [
+    (&[], None),
+    // positions 0 and 300, packed, and statistics of integers with a minimum
+    (
+        &[
+            0x0a, 0x03, 0x00, 0xac, 0x02, 0x12, 0x06, 0x08, 0x02, 0x12, 0x02, 0x08, 0x02,
+        ],
+        None,
+    ),
+    // a field that isn't known, with bytes that are no message
+    (&[0x08, 0x05, 0x6a, 0x03, 0x08, 0x01, 0x80], None),
+    // a varint without its end, among packed positions, and as a number of values
+    (
+        &[0x08, 0x01, 0x0a, 0x02, 0x00, 0x80],
+        Some(WireFault::Short(2)),
+    ),
+    (
+        &[0x0a, 0x01, 0x00, 0x12, 0x02, 0x08, 0x80],
+        Some(WireFault::Short(5)),
+    ),
+    // wire type 3, in the entry and in its statistics
+    (&[0x08, 0x01, 0x13], Some(WireFault::BadWireType(2))),
+    (
+        &[0x12, 0x03, 0x08, 0x01, 0x0b],
+        Some(WireFault::BadWireType(4)),
+    ),
+    // statistics twice, and statistics of integers twice within them
+    (
+        &[0x12, 0x00, 0x12, 0x00],
+        Some(WireFault::RepeatedMessage(2)),
+    ),
+    (
+        &[0x12, 0x06, 0x08, 0x01, 0x12, 0x00, 0x12, 0x00],
+        Some(WireFault::RepeatedMessage(6)),
+    ),
+    // buckets whose second count, packed, has no end
+    (
+        &[0x12, 0x07, 0x2a, 0x05, 0x08, 0x01, 0x0a, 0x01, 0x80],
+        Some(WireFault::Short(6)),
+    ),
+];
+
+/// What a test of the text answers.
+fn check_tested<M: Message>(rt: &impl Abort, what: &str, text: &[u8], fault: Option<WireFault>) {
+    check_same(rt, what, &M::is_message(text).err(), &fault);
+}
+
+#[test]
+fn tested(rt: HostRuntime) -> Result<(), Fail> {
+    for (text, fault) in TESTED {
+        check_tested::<RowIndexEntry>(&rt, "an entry", text, fault);
+    }
+    check_tested::<RowIndexMsg>(&rt, "an index", &INDEX, None);
+    let cut = Some(WireFault::Short(20));
+    check_tested::<RowIndexMsg>(&rt, "an index cut off", &INDEX[..26], cut);
+    // 2^32, and a type without its kind
+    let large = [0x08, 0x80, 0x80, 0x80, 0x80, 0x10];
+    let range = Some(WireFault::ValueRange(0));
+    check_tested::<Encoding>(&rt, "a kind", &large, range);
+    check_tested::<TypeMsg>(&rt, "a type", &[0x10, 0x01], Some(WireFault::Missing));
+    Ok(())
+}
