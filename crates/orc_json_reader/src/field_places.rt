@@ -1,8 +1,8 @@
 //! The fields of a struct, and which of them a key of an object names (RFC 8259, "Objects").
-ghost use Rattle.std.specs.Prelude.{◌≡◌, ◌<◌, ◌≤◌, length, get_or, replicate, None, Option, IfOk, IfSome, string_bytes, slice_set};
-ghost use Rattle.orc_values.specs.declared.tree.Field.{Field as SpecField};
+ghost use Rattle.std.specs.Prelude.{◌≡◌, ◌<◌, ◌≤◌, length, replicate, None, Option, IfOk, IfSome, slice_set};
+ghost use Rattle.std.specs.Bool.{OnTrue};
 ghost use Rattle.orc_values.specs.declared.value.Value.{Value as SpecValue};
-ghost use Rattle.orc_json_reader.specs.Frontier.{read_up_to};
+ghost use Rattle.orc_json_reader.specs.Frontier.{HasName, read_up_to};
 
 use orc_values::{Field, Row};
 use std::alloc::{AllocError, Global};
@@ -35,7 +35,7 @@ fn set_null(rows: &mut Vec<Row<'static>>, from: usize, to: usize)
 }
 
 /// Makes the rows null that a key at a place passes over. Answers up to where rows are read, or null, once its value is.
-pub(crate) fn pass_to(rows: &mut Vec<Row<'static>>, next: usize, place: usize) -> usize
+fn pass_to(rows: &mut Vec<Row<'static>>, next: usize, place: usize) -> usize
     requires { place < length rows.old.items }
     ensures within { next ≤ length rows.old.items → result ≤ length rows.new.items }
     ensures len { length rows.new.items ≡ length rows.old.items }
@@ -58,29 +58,62 @@ pub(crate) fn end_at(rows: &mut Vec<Row<'static>>, next: usize)
     set_null(rows, next, count);
 }
 
-/// The place of the field of that name, where it is one of so many from a place on.
+/// Whether the field at a place is there and has the name.
+fn is_named(fields: &[Field], place: usize, name: &str) -> bool
+    ensures { OnTrue result (HasName fields.now name.now place) }
+{
+    match fields.get(place) {
+        Some(field) => field.name.as_str() == name,
+        None => false,
+    }
+}
+
+/// The place of the field with that name, if it is one of the next `MOST_SEARCHED` from a place on.
 fn place_from(fields: &[Field], name: &str, from: usize) -> Option<usize>
-    ensures { IfSome result (λ place. (place < length fields.now)
-        × ((f : SpecField) → f ≡ get_or fields.now place f → string_bytes f.name ≡ name.now)) }
+    ensures { IfSome result (HasName fields.now name.now) }
 {
     let end = from.saturating_add(MOST_SEARCHED).min(fields.len());
     for place in from..end {
-        let field = &fields[place];
-        if field.name.as_str() == name {
+        if is_named(fields, place, name) {
             return Some(place);
         }
     }
     None
 }
 
-/// The place of the field of that name. It is looked for from `next` on first, where keys in the fields' own order have it,
-/// some of them left out or none; and then, where there are few fields, among all.
-pub(crate) fn place_of(fields: &[Field], name: &str, next: usize) -> Option<usize>
-    ensures { IfSome result (λ place. (place < length fields.now)
-        × ((f : SpecField) → f ≡ get_or fields.now place f → string_bytes f.name ≡ name.now)) }
+/// The place of the field with that name. Fields from `next` on are searched first, as keys in the order of the fields have
+/// theirs there, even if some are left out. If none has the name and the struct has few fields, all are searched.
+fn place_of(fields: &[Field], name: &str, next: usize) -> Option<usize>
+    ensures { IfSome result (HasName fields.now name.now) }
 {
     match place_from(fields, name, next) {
         None if fields.len() <= MOST_SEARCHED => place_from(fields, name, 0),
         found => found,
     }
+}
+
+/// Finds the field with that name, and makes the rows null that its key passes over. Afterwards rows before `next` are read, or
+/// null, once the field's value is. The next field is compared first, since most keys come in the order of the fields.
+pub(crate) fn come_to(
+    fields: &[Field],
+    name: &str,
+    next: &mut usize,
+    rows: &mut Vec<Row<'static>>,
+) -> Option<usize>
+    requires as_many { length rows.old.items ≡ length fields.now }
+    requires within { next.old ≤ length rows.old.items }
+    ensures named { IfSome result (HasName fields.now name.now) }
+    ensures within { next.new ≤ length rows.new.items }
+    ensures len { length rows.new.items ≡ length rows.old.items }
+    ensures rows { IfSome result (λ place. (row : Option SpecValue)
+        → read_up_to next.new (slice_set rows.new.items place row) ≡ slice_set (read_up_to next.old rows.old.items) place row) }
+{
+    if is_named(fields, *next, name) {
+        let place = *next;
+        *next = place + 1;
+        return Some(place);
+    }
+    let place = place_of(fields, name, *next)?;
+    *next = pass_to(rows, *next, place);
+    Some(place)
 }

@@ -11,7 +11,7 @@ ghost use Rattle.orc_values.specs.Shapes.{names_of};
 ghost use Rattle.orc_values.specs.Views.{view, views, paired, shape, fields as fields_view};
 ghost use Rattle.orc_json_reader.specs.Fronts.{ValueFront, ItemsFront, MembersFront, MembersSpell};
 
-use crate::field_places::{end_at, pass_to, place_of};
+use crate::field_places::{come_to, end_at};
 use crate::leaf_reading::read_scalar;
 use crate::old_room::{
     cut_pairs, cut_rows, make_list, make_map, make_pair_room, make_row_room, make_struct,
@@ -248,10 +248,9 @@ fn read_fields(
     // rows before this place are read, or null where no key has named them yet; from it on they are the old ones
     let mut next = 0;
     'members: while let Some(name) = reader.next_key()? {
-        let Some(place) = place_of(fields, name, next) else {
+        let Some(place) = come_to(fields, name, &mut next, rows) else {
             return Err(Unread::Declined);
         };
-        next = pass_to(rows, next, place);
         read_value(alloc, &fields[place].tree, depth, reader, &mut rows[place])?;
     }
     end_at(rows, next);

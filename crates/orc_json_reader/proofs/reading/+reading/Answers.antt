@@ -172,42 +172,41 @@ read_pairs-returns-clause-found t c =
 pub read_fields-members-init : goal.read_fields-members-init
 read_fields-members-init t c = (fields_first c.args.fields.now.items c.args.depth c.args.reader.now c.args.rows.now.items c.requires.as_many, omega arith)
 
-pub read_fields-pass_to-next-requires : goal.read_fields-pass_to-next-requires
-read_fields-pass_to-next-requires t c =
-    let placed = c.in-Some-place_of.ensures in
+pub read_fields-come_to-requires : goal.read_fields-come_to-requires
+read_fields-come_to-requires t c =
     let as_many : length (read_up_to c.members.next c.members.rows.items) ≡ length c.args.fields.now.items = c.members.invariant.0.as_many in
-    omega (arith, placed.0, ap length c.deref.ensures.value, as_many, read_up_to-length c.members.next c.members.rows.items)
+    record { as_many = omega (arith, ap length c.deref.ensures.value, as_many, read_up_to-length c.members.next c.members.rows.items); within = c.members.invariant.1 }
 
 pub read_fields-index_mut-requires : goal.read_fields-index_mut-requires
 read_fields-index_mut-requires t c =
-    let placed = c.in-Some-place_of.ensures in
+    let placed = c.in-Some-come_to.ensures.named in
     let as_many : length (read_up_to c.members.next c.members.rows.items) ≡ length c.args.fields.now.items = c.members.invariant.0.as_many in
-    omega (arith, placed.0, ap length c.deref.ensures.value, as_many, read_up_to-length c.members.next c.members.rows.items, c.pass_to-next.ensures.len)
+    omega (arith, placed.0, ap length c.deref.ensures.value, as_many, read_up_to-length c.members.next c.members.rows.items, c.come_to.ensures.len)
 
 pub read_fields-read_value-requires : goal.read_fields-read_value-requires
 read_fields-read_value-requires t c =
-    let placed = c.in-Some-place_of.ensures in
-    let lt : c.in-Some-place_of.place < length c.args.fields.now.items = omega (arith, placed.0, ap length c.deref.ensures.value) in
+    let placed = c.in-Some-come_to.ensures.named in
+    let lt : c.in-Some-come_to.place < length c.args.fields.now.items = omega (arith, placed.0, ap length c.deref.ensures.value) in
     let less : 4 * c.args.depth + 1 < t = omega arith in
-    (less, distinct_at c.args.fields.now.items c.in-Some-place_of.place c.index.result.now lt c.index.ensures c.requires.distinct)
+    (less, distinct_at c.args.fields.now.items c.in-Some-come_to.place c.index.result.now lt c.index.ensures c.requires.distinct)
 
 pub read_fields-members-preserved : goal.read_fields-members-preserved
 read_fields-members-preserved t c =
     let fs = c.args.fields.now.items in
-    let i = c.in-Some-place_of.place in
+    let i = c.in-Some-come_to.place in
     let f = c.index.result.now in
     let k = c.in-Some.name.now in
     let s = c.next_key.new.self in
     let row = c.read_value.new.cell in
     let old = read_up_to c.members.next c.members.rows.items in
-    let placed = c.in-Some-place_of.ensures in
+    let placed = c.in-Some-come_to.ensures.named in
     let lt : i < length fs = omega (arith, placed.0, ap length c.deref.ensures.value) in
     let named : string_bytes f.name ≡ k = placed.1 f (c.index.ensures ∙ ap (λ (gs : List Field). get_or gs i f) (sym c.deref.ensures.value)) in
     let key : read_key c.members.reader ≡ Some (Some k, s) = grind arith in
-    let moved : read_up_to c.pass_to-next.result (set c.pass_to-next.new.rows.items i row) ≡ set old i row = c.pass_to-next.ensures.rows row in (
+    let moved : read_up_to c.come_to.new.next (set c.come_to.new.rows.items i row) ≡ set old i row = c.in-Some-come_to.ensures.rows row in (
       rw moved (fields_next fs c.args.depth c.args.reader.now c.members.reader s c.read_value.new.reader old k i f row lt c.index.ensures named c.requires.names key c.in_ok-read_value.ensures.found
           (read_key-shorter c.members.reader (Some k) s key) c.in_ok-read_value.ensures.shorter c.members.invariant.0),
-      omega (arith, length-set c.pass_to-next.new.rows.items i row),
+      omega (arith, length-set c.come_to.new.rows.items i row, c.come_to.ensures.within),
     )
 
 pub read_fields-returns-clause-found : goal.read_fields-returns-clause-found
