@@ -1,5 +1,5 @@
 //! Printing the rows of a schema.
-ghost use Rattle.std.specs.Prelude.{◌≡◌, ◌≢◌, ◌++◌, true, false, IfOk, OnOk, IfErr, OnErr, MatchOption};
+ghost use Rattle.std.specs.Prelude.{◌≡◌, ◌≢◌, ◌++◌, true, false, IfOk, OnOk, IfErr, OnErr, IfSome, MatchOption};
 ghost use Rattle.serde_json.specs.Written.{compact_text};
 ghost use Rattle.orc_json_rows.specs.FieldNames.{is_distinct};
 ghost use Rattle.orc_values.specs.Fits.{fits};
@@ -7,19 +7,20 @@ ghost use Rattle.orc_json_rows.specs.JsonPrinting.{json_of};
 ghost use Rattle.orc_values.specs.Views.{view};
 ghost use Rattle.orc_json_rows.specs.declared.json_fault.JsonFault.TheVariants as fault;
 ghost use Rattle.orc_json_printer.specs.Growth.{Grows};
+ghost use Rattle.orc_json_printer.specs.LaidOut.{IsLaidOut};
 ghost use Rattle.orc_json_printer.specs.Layouts.{text_by};
 ghost use Rattle.orc_json_printer.specs.Texts.{Prints};
 
 use orc_json_printer::layout::{Layout, layout_of};
 use orc_json_printer::printing::push_text;
-use orc_types::{JsonFault, Schema, row_to_json};
+use orc_types::{JsonFault, Schema};
 use orc_values::Row;
 use std::alloc::{AllocError, Global};
 use std::marker::Model;
 use std::snapshot::Snapshot;
 
-/// What prints the rows of a schema as JSON: how each struct's fields come in the order of their names
-/// is found once, and not for each row. Contracts see the schema that it is for.
+/// Prints the rows of a schema as JSON. The order of each struct's members is found once, and not for each row. Contracts see
+/// the schema that the printer is for.
 #[derive(Drop)]
 pub struct RowPrinter {
     layout: Layout,
@@ -42,40 +43,34 @@ impl Model for RowPrinter {
     ghost invariant = { PrintsRows };
 }
 
-/// Whether no struct of the schema names a field twice. Where one does, `row_to_json` refuses each row,
-/// a null one too, whose JSON takes no work.
-fn has_distinct_names(alloc: Global, schema: &Schema) -> Result<bool, AllocError>
-    ensures { IfOk result (λ distinct. distinct ≡ is_distinct schema.now) }
-{
-    match row_to_json(alloc, schema, &None) {
-        Ok(_) => Ok(true),
-        Err(JsonFault::DuplicateField) => Ok(false),
-        Err(_) => Err(AllocError),
-    }
-}
-
 impl RowPrinter {
-    /// What prints the rows of the schema. Only want of memory refuses it: a struct that names a field twice
-    /// is refused with the first row, as a file of such a schema that has no rows prints nothing.
+    /// Makes the printer of a schema's rows. If a struct of the schema names a field twice, only its rows are refused, because a
+    /// file of such a schema may have none.
+    ///
+    /// # Errors
+    ///
+    /// It fails only if memory runs out.
     pub fn new(alloc: Global, schema: &Schema) -> Result<RowPrinter, AllocError>
         // Unless memory is refused, the printer is of the schema that it was made for.
         ensures { IfOk result (λ printer. printer ≡ schema.now) }
     {
-        let distinct = has_distinct_names(alloc, schema)?;
         let layout = layout_of(alloc, schema.tree())?;
         Ok(RowPrinter {
             layout,
-            distinct,
+            distinct: schema.has_distinct_names(),
             schema: Snapshot::of(schema),
         })
     }
 
-    /// How the rows are printed; none where some struct of the schema names a field twice, as such rows have no JSON.
+    /// Returns the layout by which the rows are printed, or `None` if some struct of the schema names a field twice, because
+    /// such rows have no JSON.
     pub fn layout(&self) -> Option<&Layout>
-        // A layout is there exactly where no struct of the schema names a field twice, and its text
-        // of a row that fits is the row's JSON.
-        ensures { MatchOption result (is_distinct self.now ≡ false)
+        // A layout is returned if, and only if, no struct of the schema names a field twice. Then the layout's text of each
+        // row that fits is the row's JSON.
+        ensures text { MatchOption result (is_distinct self.now ≡ false)
             (λ layout. (is_distinct self.now ≡ true) × Prints (text_by layout.now) self.now) }
+        // A layout that is returned is one of the rows' type, as readers of columns require.
+        ensures laid_out { IfSome result (λ layout. IsLaidOut self.now layout.now) }
     {
         if !self.distinct {
             return None;

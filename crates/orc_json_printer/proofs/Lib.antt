@@ -3,3 +3,5 @@ pub mod Growth
 pub mod Outputs
 pub mod Layouts
 pub mod Prints
+pub mod Places
+pub mod Laying

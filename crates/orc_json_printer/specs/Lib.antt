@@ -2,3 +2,4 @@ pub mod Growth
 pub mod Outputs
 pub mod Layouts
 pub mod Texts
+pub mod LaidOut

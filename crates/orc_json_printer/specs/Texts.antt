@@ -1,5 +1,5 @@
 -- Texts that are the JSON of rows.
-use Rattle.std.specs.Prelude.{◌≡◌, ◌<◌, ℕ, List, [], ◌∷◌, true, get_or, length, String, string_bytes}
+use Rattle.std.specs.Prelude.{◌≡◌, ◌<◌, ℕ, List, [], ◌∷◌, true, get_or, length, map, String, string_bytes}
 use Rattle.std.specs.List.{AllByRecursion}
 use Rattle.std.specs.declared.alloc.Global.{Global}
 use Rattle.serde_json.specs.Data.{Data, Members, no_members, member}
@@ -48,3 +48,7 @@ ArePlacesInOrder fs es = (cs : List Cell) → length cs ≡ length fs
 -- each place is one of so many
 abbrev pub AreWithin : ℕ → List (String Global × ℕ) → Type 0
 AreWithin n es = AllByRecursion (λ e. e.1 < n) es
+
+-- the places of these entries
+abbrev pub entry_places : List (String Global × ℕ) → List ℕ
+entry_places es = map (λ (e : String Global × ℕ). e.1) es
