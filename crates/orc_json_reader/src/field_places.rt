@@ -1,4 +1,4 @@
-//! The fields of a struct, and which of them a key of an object names (RFC 8259, "Objects").
+//! The fields of a struct, and the field that a key of an object names (RFC 8259, "Objects").
 ghost use Rattle.std.specs.Prelude.{◌≡◌, ◌<◌, ◌≤◌, length, replicate, None, Option, IfOk, IfSome, slice_set};
 ghost use Rattle.std.specs.Bool.{OnTrue};
 ghost use Rattle.orc_values.specs.declared.value.Value.{Value as SpecValue};
@@ -7,11 +7,12 @@ ghost use Rattle.orc_json_reader.specs.Frontier.{HasName, read_up_to};
 use orc_values::{Field, Row};
 use std::alloc::{AllocError, Global};
 
-/// Among how many fields a key is looked for at most, from the field on that is behind all that keys have named, and among all
-/// where a struct has no more. So the time that a row takes doesn't grow with the square of its fields.
+/// The most fields that are searched for a key. The search begins at the field after all those that keys have named. A struct
+/// with no more fields than that is also searched from its first. A bound keeps the time that a row takes from growing with the
+/// square of its fields.
 const MOST_SEARCHED: usize = 64;
 
-/// So many nulls.
+/// Makes a list of `count` nulls.
 pub(crate) fn nulls(alloc: Global, count: usize) -> Result<Vec<Row<'static>>, AllocError>
     ensures { IfOk result (λ rows. rows.items ≡ replicate count None) }
 {
@@ -22,7 +23,7 @@ pub(crate) fn nulls(alloc: Global, count: usize) -> Result<Vec<Row<'static>>, Al
     Ok(rows)
 }
 
-/// Makes the rows from one place up to another null.
+/// Makes the rows from the place `from` up to the place `to` null.
 fn set_null(rows: &mut Vec<Row<'static>>, from: usize, to: usize)
     requires order { from ≤ to }
     requires within { to ≤ length rows.old.items }
@@ -34,7 +35,8 @@ fn set_null(rows: &mut Vec<Row<'static>>, from: usize, to: usize)
     }
 }
 
-/// Makes the rows null that a key at a place passes over. Answers up to where rows are read, or null, once its value is.
+/// Makes the rows null that a key passes over whose field is at `place`. Returns the place up to which rows are read, or null,
+/// once the key's value is read.
 fn pass_to(rows: &mut Vec<Row<'static>>, next: usize, place: usize) -> usize
     requires { place < length rows.old.items }
     ensures within { next ≤ length rows.old.items → result ≤ length rows.new.items }
@@ -49,7 +51,7 @@ fn pass_to(rows: &mut Vec<Row<'static>>, next: usize, place: usize) -> usize
     place + 1
 }
 
-/// Makes the rows null that no key has come to.
+/// Makes the rows from `next` on null, as no key has named their fields.
 pub(crate) fn end_at(rows: &mut Vec<Row<'static>>, next: usize)
     requires { next ≤ length rows.old.items }
     ensures { rows.new.items ≡ read_up_to next rows.old.items }
@@ -68,7 +70,7 @@ fn is_named(fields: &[Field], place: usize, name: &str) -> bool
     }
 }
 
-/// The place of the field with that name, if it is one of the next `MOST_SEARCHED` from a place on.
+/// Finds the field with that name among the `MOST_SEARCHED` fields that begin at the place `from`.
 fn place_from(fields: &[Field], name: &str, from: usize) -> Option<usize>
     ensures { IfSome result (HasName fields.now name.now) }
 {
@@ -81,8 +83,8 @@ fn place_from(fields: &[Field], name: &str, from: usize) -> Option<usize>
     None
 }
 
-/// The place of the field with that name. Fields from `next` on are searched first, as keys in the order of the fields have
-/// theirs there, even if some are left out. If none has the name and the struct has few fields, all are searched.
+/// Finds the field with that name. The fields from `next` on are searched first, because keys that come in the order of the
+/// fields name a field there, even if some keys are missing. If the struct has few fields, all are searched then.
 fn place_of(fields: &[Field], name: &str, next: usize) -> Option<usize>
     ensures { IfSome result (HasName fields.now name.now) }
 {
@@ -92,8 +94,8 @@ fn place_of(fields: &[Field], name: &str, next: usize) -> Option<usize>
     }
 }
 
-/// Finds the field with that name, and makes the rows null that its key passes over. Afterwards rows before `next` are read, or
-/// null, once the field's value is. The next field is compared first, since most keys come in the order of the fields.
+/// Finds the field with that name, and makes the rows null that its key passes over. Once the key's value is read, the rows
+/// before `next` are read, or null. The next field is compared first, because most keys come in the order of the fields.
 pub(crate) fn come_to(
     fields: &[Field],
     name: &str,

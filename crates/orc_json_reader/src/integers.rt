@@ -5,7 +5,7 @@ ghost use Rattle.serde_json.specs.Read.{number_of, number_from};
 
 use fast_float::Numeral;
 
-/// The integer of digits without a sign, where an `i64` holds it.
+/// Returns the integer of digits without a sign, if it fits an `i64`.
 fn from_zero(numeral: &Numeral<'_>) -> Option<i64>
     ensures { IfSome result (λ z. option_and_then as_integer (number_from false numeral.now) ≡ Some z) }
 {
@@ -15,7 +15,7 @@ fn from_zero(numeral: &Numeral<'_>) -> Option<i64>
     Some(integer)
 }
 
-/// The integer of digits behind a minus, where an `i64` holds it. `-0` is none: as a number it isn't 0.
+/// Returns the integer of digits after a minus, if it fits an `i64`. `-0` is no integer, because `serde_json` reads none there.
 fn below_zero(numeral: &Numeral<'_>) -> Option<i64>
     ensures { IfSome result (λ z. option_and_then as_integer (number_from true numeral.now) ≡ Some z) }
 {
@@ -31,7 +31,7 @@ fn has_minus(bytes: &[u8]) -> bool
     !bytes.is_empty() && bytes[0] == b'-'
 }
 
-/// The integer that a number of JSON is, where it is one without a fraction or an exponent and an `i64` holds it.
+/// Returns the integer that a number of JSON is, if it has no fraction and no exponent and fits an `i64`.
 pub(crate) fn integer_of(text: &str) -> Option<i64>
     ensures { IfSome result (λ z. option_and_then as_integer (number_of text.now) ≡ Some z) }
 {

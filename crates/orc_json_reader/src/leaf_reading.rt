@@ -1,4 +1,4 @@
-//! Values that contain no other, of one token each (RFC 8259, "Values", "Numbers", "Strings").
+//! Values that contain no other value: each is one token (RFC 8259, "Values", "Numbers", "Strings").
 ghost use Rattle.std.specs.Prelude.{◌≡◌, ◌<◌, ℕ, length, Some, OnOk, option_map, string_bytes};
 ghost use Rattle.json.specs.Reads.{token_of};
 ghost use Rattle.serde_json.specs.Data.{Data, boolean, number, string};
@@ -55,7 +55,7 @@ fn put_integer(kind: Scalar, integer: i64, cell: &mut Row<'static>) -> Result<()
 }
 
 /// Puts the value of the kind that a number spells.
-// (out of line, as are the texts: `read_scalar` would else clear the room of all their locals for each value)
+// (out of line, as are the texts: otherwise `read_scalar` would clear the room of all their locals for each value)
 #[inline(never)]
 fn put_number(kind: Scalar, text: &str, cell: &mut Row<'static>) -> Result<(), Unread>
     ensures { OnOk result
@@ -67,7 +67,7 @@ fn put_number(kind: Scalar, text: &str, cell: &mut Row<'static>) -> Result<(), U
     }
 }
 
-/// Puts a text over an old row: in the room of its text, where that is kept.
+/// Puts a text over an old row, in the room of the old row's text if that is kept.
 #[inline(never)]
 fn write_text(alloc: Global, text: &str, cell: &mut Row<'static>) -> Result<(), AllocError>
     ensures { OnOk result (view cell.new ≡ leaf (spec_text text.now)) }
@@ -82,7 +82,7 @@ fn write_text(alloc: Global, text: &str, cell: &mut Row<'static>) -> Result<(), 
     Ok(())
 }
 
-/// Puts the value of a kind but STRING that a string spells.
+/// Puts the value that a string spells, of any kind but STRING.
 #[inline(never)]
 fn put_spelled(
     alloc: Global,
@@ -118,7 +118,7 @@ fn put_string(
     put_spelled(alloc, kind, text, cell)
 }
 
-/// Reads the value of the kind that a token spells by itself. Null is null, whatever the kind.
+/// Reads the value of the kind that a single token spells. Null is null, whatever the kind.
 fn read_leaf(
     alloc: Global,
     kind: Scalar,
@@ -146,7 +146,7 @@ fn read_leaf(
 }
 
 /// Reads the value of the kind that the next value spells.
-// (out of line, as its siblings of the other types: `read_value` would else clear the room of all their locals for each value)
+// (out of line, as its siblings of the other types: otherwise `read_value` would clear the room of all their locals for each value)
 #[inline(never)]
 pub(crate) fn read_scalar(
     alloc: Global,

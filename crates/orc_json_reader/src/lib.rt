@@ -1,4 +1,4 @@
-//! A row's JSON as text, read straight to the row: token by token down a tree of types, with no value of JSON in between.
+//! Reads a row from the text of its JSON, token by token down a tree of types, with no value of JSON in between.
 #![tactic(auto)]
 
 mod field_places;

@@ -1,29 +1,28 @@
-//! The room of old texts, lists and maps, in which new ones are read. It is kept where it is small, or less than twice what is
-//! read; else it is given back. So what a row keeps is bounded by what it holds, whatever was read in its room before.
+//! The room of old texts, lists and maps, in which new ones are read. Room that is small, or less than twice what is needed, is
+//! kept. Other room is given back, so that a row doesn't keep what a far larger row needed. No contract speaks of room.
 ghost use Rattle.std.specs.Prelude.{◌≡◌, ◌<◌, ◌≤◌, length, take, OnOk};
 
 use crate::field_places::nulls;
 use orc_values::{MapPair, Row, Value};
 use std::alloc::{AllocError, AllocFailed, Global};
 
-/// Of a text, room for so many bytes is kept, however short the text.
+/// Room for this many bytes of a text is kept, however short the text.
 const SMALL_TEXT: usize = 64;
 
-/// Of a list or a map, room for so many elements is kept, however few there are.
+/// Room for this many elements of a list or a map is kept, however few there are.
 const SMALL_LIST: usize = 16;
 
-/// Whether room of a capacity is kept for so many: up to a small one it is, and above where it is less than twice what they
-/// need. Where it doesn't suffice and grows, it becomes at most twice what is needed.
+/// Whether room for `capacity` items is kept for `count` of them: if it is small, or less than twice what they need.
 fn is_kept(capacity: usize, count: usize, small: usize) -> bool {
     capacity <= small || capacity / 2 < count
 }
 
-/// Whether the room of an old text is kept for one of so many bytes.
+/// Whether the room of an old text is kept for a text of `len` bytes.
 pub(crate) fn is_text_kept(capacity: usize, len: usize) -> bool {
     is_kept(capacity, len, SMALL_TEXT)
 }
 
-/// Makes room for the element at a place, unless there is an old one.
+/// Puts `blank` at the end if the place has no old element.
 fn make_room<T: Drop>(items: &mut Vec<T>, place: usize, blank: T) -> Result<(), AllocFailed<T>>
     requires { place ≤ length items.old.items }
     ensures room { OnOk result (place < length items.new.items) }
@@ -35,7 +34,7 @@ fn make_room<T: Drop>(items: &mut Vec<T>, place: usize, blank: T) -> Result<(), 
     items.push(blank)
 }
 
-/// Drops the old elements behind so many, and gives the room back that is too large.
+/// Drops the old elements after the first `count`, and gives room back that is too large.
 fn cut_room<T: Drop>(items: &mut Vec<T>, count: usize)
     ensures { items.new.items ≡ take count items.old.items }
 {
@@ -45,7 +44,7 @@ fn cut_room<T: Drop>(items: &mut Vec<T>, count: usize)
     }
 }
 
-/// Makes room for the element of a list at a place, unless there is an old one.
+/// Puts null at the end of a list if the place has no old element.
 pub(crate) fn make_row_room(rows: &mut Vec<Row<'static>>, place: usize) -> Result<(), AllocError>
     requires { place ≤ length rows.old.items }
     ensures room { OnOk result (place < length rows.new.items) }
@@ -57,14 +56,14 @@ pub(crate) fn make_row_room(rows: &mut Vec<Row<'static>>, place: usize) -> Resul
     }
 }
 
-/// Drops the old elements of a list behind so many, as `cut_room` does.
+/// Drops the old elements of a list after the first `count`, as `cut_room` does.
 pub(crate) fn cut_rows(rows: &mut Vec<Row<'static>>, count: usize)
     ensures { rows.new.items ≡ take count rows.old.items }
 {
     cut_room(rows, count);
 }
 
-/// Makes room for the pair of a map at a place, unless there is an old one.
+/// Puts a pair of nulls at the end of a map if the place has no old pair.
 pub(crate) fn make_pair_room(
     pairs: &mut Vec<MapPair<'static>>,
     place: usize,
@@ -83,28 +82,28 @@ pub(crate) fn make_pair_room(
     }
 }
 
-/// Drops the old pairs of a map behind so many, as `cut_room` does.
+/// Drops the old pairs of a map after the first `count`, as `cut_room` does.
 pub(crate) fn cut_pairs(pairs: &mut Vec<MapPair<'static>>, count: usize)
     ensures { pairs.new.items ≡ take count pairs.old.items }
 {
     cut_room(pairs, count);
 }
 
-/// Makes a row a list, unless it is one.
+/// Makes a row an empty list, unless it is a list.
 pub(crate) fn make_list(alloc: Global, cell: &mut Row<'static>) {
     if !matches!(cell, Some(Value::List(_))) {
         *cell = Some(Value::List(Vec::new(alloc)));
     }
 }
 
-/// Makes a row a map, unless it is one.
+/// Makes a row an empty map, unless it is a map.
 pub(crate) fn make_map(alloc: Global, cell: &mut Row<'static>) {
     if !matches!(cell, Some(Value::Map(_))) {
         *cell = Some(Value::Map(Vec::new(alloc)));
     }
 }
 
-/// Makes a row a struct of so many fields, unless it is one.
+/// Makes a row a struct of `count` nulls, unless it is a struct of `count` fields.
 pub(crate) fn make_struct(
     alloc: Global,
     cell: &mut Row<'static>,

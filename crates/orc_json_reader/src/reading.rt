@@ -1,8 +1,8 @@
-//! Rows, read from the tokens of a text down the tree of types (RFC 8259, "Values", "Objects", "Arrays"; types by the ORC
-//! specification, "Types"). What isn't followed is declined, and no refusal is told here.
+//! Reads rows from the tokens of a text, down the tree of types (RFC 8259, "Values", "Objects", "Arrays"; types by the ORC
+//! specification, "Types"). What isn't followed is declined, without a reason.
 //!
-//! Each row is read over one that is no longer needed, in the room of its texts and lists where that is of use. No clause speaks
-//! of the old row, so nothing of it is in the new one. After a refusal the cell holds what was read so far and what is old.
+//! Each row is read over one that is no longer needed, so that the room of its texts and lists is used again. Contracts say what
+//! the new row is, whatever the old one was. After an error the cell may hold parts of both.
 ghost use Rattle.std.specs.Prelude.{◌≡◌, ◌<◌, length, map, true, OnOk};
 ghost use Rattle.orc_values.specs.Cells.{cells_of, pairs_of};
 ghost use Rattle.orc_json_rows.specs.FieldNames.{is_distinct, are_distinct, all_differ};
@@ -21,7 +21,14 @@ use json::{Reader, Token};
 use orc_values::{Field, MapPair, Row, Tree, Value};
 use std::alloc::Global;
 
-/// Reads the row that the next value spells. Arrays and objects may nest `depth` deep in it, the value itself among them.
+/// Reads the row that the next value spells, over the row in the cell. Arrays and objects may nest `depth` deep, the value itself
+/// included.
+///
+/// # Errors
+///
+/// - `Declined`: the next value spells no row of the type, or is spelled in a way that isn't followed here. Read the text's
+///   value (`row_from_json`) to find the row or the fault.
+/// - `OutOfMemory`: memory ran out.
 #[cycle(reading)]
 pub fn read_value(
     alloc: Global,
@@ -31,9 +38,9 @@ pub fn read_value(
     cell: &mut Row<'static>,
 ) -> Result<(), Unread>
     requires { is_distinct (shape tree.now) ≡ true }
-    // If no struct of the type names a field twice and the value is read, then the tokens began with a value in
-    // which arrays and objects nest at most `depth` deep, it spells the new cell under the type, and the tokens
-    // behind it are left, which are fewer than before.
+    // If no struct of the type names a field twice and the call succeeds, then the tokens began with a value in which arrays
+    // and objects nest at most `depth` deep, this value spells the new cell under the type, and the tokens after it, which are
+    // fewer than before, are left.
     ensures found { OnOk result
         (ValueFront (λ d. JsonSpells (shape tree.now) d (view cell.new)) depth reader.old reader.new) }
     ensures shorter { OnOk result (length reader.new < length reader.old) }
@@ -46,7 +53,7 @@ pub fn read_value(
     }
 }
 
-/// Reads the row of a LIST that the next value spells: null, or an array.
+/// Reads the row of a LIST that the next value spells, which is null or an array.
 #[cycle(reading)]
 #[inline(never)]
 fn read_list(
@@ -77,7 +84,7 @@ fn read_list(
     }
 }
 
-/// Reads the row of a MAP that the next value spells: null, or an array of arrays of two.
+/// Reads the row of a MAP that the next value spells, which is null or an array of arrays of two.
 #[cycle(reading)]
 #[inline(never)]
 fn read_map(
@@ -111,7 +118,7 @@ fn read_map(
     }
 }
 
-/// Reads the row of a STRUCT that the next value spells: null, or an object.
+/// Reads the row of a STRUCT that the next value spells, which is null or an object.
 #[cycle(reading)]
 #[inline(never)]
 fn read_struct(
@@ -228,8 +235,8 @@ fn read_pairs(
     Ok(())
 }
 
-/// Reads the rows of a struct's fields that an object's members spell, up to its closing brace. Of a key that comes twice the
-/// last value stands, and a field whose key is missing is null.
+/// Reads the rows of a struct's fields that an object's members spell, up to its closing brace. If a key comes twice, its last
+/// value counts. If a field's key is missing, the field is null.
 #[cycle(reading)]
 fn read_fields(
     alloc: Global,
@@ -245,7 +252,7 @@ fn read_fields(
         (λ ms. MembersSpell (fields_view fields.now.items) ms (cells_of (views rows.new.items))) depth reader.old reader.new) }
     ensures shorter { OnOk result (length reader.new < length reader.old) }
 {
-    // rows before this place are read, or null where no key has named them yet; from it on they are the old ones
+    // rows before this place are read, or null if no key has named them yet; those from it on are the old ones
     let mut next = 0;
     'members: while let Some(name) = reader.next_key()? {
         let Some(place) = come_to(fields, name, &mut next, rows) else {

@@ -1,13 +1,12 @@
-//! Why a text isn't read straight to its row.
+//! The reasons why a text isn't read straight to its row.
 
 use json::Invalid;
 use std::alloc::{AllocError, AllocFailed};
 
-/// Why a text isn't read straight to its row.
+/// The reason why a text wasn't read straight to its row.
 #[derive(Clone, Copy, Debug, Drop)]
 pub enum Unread {
-    /// What stands there spells no row, or in a way that isn't followed here. Which of them, and which refusal, is found
-    /// out by the text's value.
+    /// The text spells no row of the type, or spells one in a way that isn't followed here.
     Declined,
     /// Memory ran out.
     OutOfMemory,
