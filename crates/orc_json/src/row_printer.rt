@@ -51,7 +51,7 @@ impl RowPrinter {
     ///
     /// It fails only if memory runs out.
     pub fn new(alloc: Global, schema: &Schema) -> Result<RowPrinter, AllocError>
-        // Unless memory is refused, the printer is of the schema that it was made for.
+        // If the call succeeds, then the printer is for this schema.
         ensures { IfOk result (λ printer. printer ≡ schema.now) }
     {
         let layout = layout_of(alloc, schema.tree())?;

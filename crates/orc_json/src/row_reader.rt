@@ -1,4 +1,4 @@
-//! Rows from texts of JSON.
+//! Reads rows from texts of JSON.
 ghost use Rattle.std.specs.Prelude.{◌≡◌, ◌≢◌, true, IfOk, IfErr, OnOk, MatchResult};
 ghost use Rattle.orc_values.specs.Cells.{Cell};
 ghost use Rattle.orc_json_rows.specs.FieldNames.{is_distinct};
@@ -15,18 +15,19 @@ use serde_json::Value as Json;
 use serde_json::error::Category;
 use std::alloc::Global;
 
-/// How deep arrays and objects nest at most in a text that `serde_json` reads (RFC 8259, "Parsers", lets a parser set a limit).
+/// The depth to which arrays and objects nest at most in a text that `serde_json` reads (RFC 8259, "Parsers", lets a parser set
+/// a limit).
 const MAX_DEPTH: usize = 127;
 
-/// What reads rows from texts of JSON, one after another and under any schema. For strings with escapes it keeps room as
-/// long as the longest text that it has read; else each text is read as if it were the first.
+/// Reads rows from texts of JSON, one after another and under any schema. It keeps room for strings with escapes. Each text is
+/// read as if it were the first.
 #[derive(Drop)]
 pub struct RowReader {
     scratch: Scratch,
 }
 
-/// The row that a text spells, by way of its value, or why it spells none.
-// (out of line: few texts come to it, and the room of its locals would be cleared for each)
+/// Reads the row that a text spells by way of the text's value, or returns the reason why the text spells none.
+// (out of line: few texts come here, and otherwise the room of its locals would be cleared for each text)
 #[inline(never)]
 fn row_by_value(alloc: Global, schema: &Schema, text: &[u8]) -> Result<Row<'static>, JsonFault>
     ensures found { IfOk result (λ row. TextSpells schema.now text.now (view row)) }
@@ -41,14 +42,14 @@ fn row_by_value(alloc: Global, schema: &Schema, text: &[u8]) -> Result<Row<'stat
 }
 
 impl RowReader {
-    /// A reader that has no room yet.
+    /// Makes a reader, without room yet. Contracts see nothing of a reader, because no answer depends on it.
     pub fn new(alloc: Global) -> RowReader {
         RowReader {
             scratch: Scratch::new(alloc),
         }
     }
 
-    /// Reads the row that a text spells, where it can be read straight.
+    /// Reads the row that a text spells, if it can be read straight.
     fn read_straight(
         &mut self,
         alloc: Global,
@@ -72,39 +73,45 @@ impl RowReader {
         Ok(())
     }
 
-    /// The row that a text of JSON spells under a schema: the one that `row_from_json` answers of the value that `serde_json`
-    /// reads in it, exactly. A value is made only where a refusal has to be told, and where in an object under a struct of more
-    /// than 64 fields a key's field doesn't stand behind that of the last key, or is more than 64 behind it.
+    /// Reads the row that a text of JSON spells under a schema: the row that `row_from_json` returns for the value that
+    /// `serde_json` reads in the text.
     ///
-    /// Refusals: `Syntax` where the text isn't UTF-8 (RFC 8259, "Character Encoding") or `serde_json` reads no value in it;
-    /// those of `row_from_json` of the value that it reads; `OutOfMemory`. After each of them the reader reads on as before.
+    /// # Errors
+    ///
+    /// - `Syntax`: the text isn't UTF-8 (RFC 8259, "Character Encoding"), or `serde_json` reads no value in it.
+    /// - Any error of `row_from_json` for the value that `serde_json` reads.
+    /// - `OutOfMemory`: memory ran out.
+    ///
+    /// The reader can be used after an error.
     pub fn read_row(
         &mut self,
         alloc: Global,
         schema: &Schema,
         text: &[u8],
     ) -> Result<Row<'static>, JsonFault>
-        // What is answered is the row that the text spells.
+        // If the call succeeds, then the text spells the row that is returned.
         ensures found { IfOk result (λ row. TextSpells schema.now text.now (view row)) }
-        // A text that spells a row is answered with it, or memory is refused.
+        // If the text spells a row, then the call returns this row, or fails with `OutOfMemory`.
         ensures only { (row : Cell) → TextSpells schema.now text.now row
             → MatchResult result (λ found. view found ≡ row) (λ e. e ≡ fault.OutOfMemory) }
-        // What is answered fits the schema.
+        // If the call succeeds, then the returned row fits the schema.
         ensures fits { IfOk result (λ row. fits (view row) schema.now ≡ true) }
 
-        // Unless for memory, a refusal is Syntax of what isn't UTF-8 or JSON, DuplicateField of a
-        // schema that names a field twice, or a fault that stands in the text's value.
+        // If the call fails with an error other than `OutOfMemory`, then the error is `Syntax`, and the text isn't UTF-8 or
+        // isn't JSON; or it is `DuplicateField`, and a struct of the schema names a field twice; or the text's value has this
+        // fault.
         ensures fault { IfErr result (λ why. why ≢ fault.OutOfMemory → RowTextFault schema.now text.now why) }
     {
         self.read_row_over(alloc, schema, text, None)
     }
 
-    /// As `read_row`, in the room of a row that is no longer needed, so that a caller who drops rows as others are read takes
-    /// little memory anew. The spare row is any row at all, under whatever schema it was read, and nothing of it is in the
-    /// answer. Where its structs, texts, lists and maps stand at places of such in the new row, their room is used: a struct's
-    /// where it has as many fields, a text's where it is small or less than twice what is needed, and that of lists and maps, of
-    /// which what is too large is given back. So no row keeps room that is far larger than its values, however often it is read
-    /// over. After a refusal the spare row is gone.
+    /// Reads a row as `read_row` does, over a spare row that is no longer needed. The spare row may be any row, of any schema. Its
+    /// room is used again if it suits, so that a caller who reads row by row allocates little. After an error the spare row is
+    /// gone.
+    ///
+    /// # Errors
+    ///
+    /// The same as `read_row`'s.
     pub fn read_row_over(
         &mut self,
         alloc: Global,
@@ -112,16 +119,17 @@ impl RowReader {
         text: &[u8],
         spare: Row<'static>,
     ) -> Result<Row<'static>, JsonFault>
-        // What is answered is the row that the text spells, whatever the spare row was.
+        // If the call succeeds, then the text spells the row that is returned, whatever the spare row was.
         ensures found { IfOk result (λ row. TextSpells schema.now text.now (view row)) }
-        // A text that spells a row is answered with it, or memory is refused.
+        // If the text spells a row, then the call returns this row, or fails with `OutOfMemory`.
         ensures only { (row : Cell) → TextSpells schema.now text.now row
             → MatchResult result (λ found. view found ≡ row) (λ e. e ≡ fault.OutOfMemory) }
-        // What is answered fits the schema.
+        // If the call succeeds, then the returned row fits the schema.
         ensures fits { IfOk result (λ row. fits (view row) schema.now ≡ true) }
 
-        // Unless for memory, a refusal is Syntax of what isn't UTF-8 or JSON, DuplicateField of a
-        // schema that names a field twice, or a fault that stands in the text's value.
+        // If the call fails with an error other than `OutOfMemory`, then the error is `Syntax`, and the text isn't UTF-8 or
+        // isn't JSON; or it is `DuplicateField`, and a struct of the schema names a field twice; or the text's value has this
+        // fault.
         ensures fault { IfErr result (λ why. why ≢ fault.OutOfMemory → RowTextFault schema.now text.now why) }
     {
         let mut row = spare;
