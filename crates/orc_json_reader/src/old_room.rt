@@ -4,7 +4,7 @@ ghost use Rattle.std.specs.Prelude.{◌≡◌, ◌<◌, ◌≤◌, length, take,
 
 use crate::field_places::nulls;
 use orc_values::{MapPair, Row, Value};
-use std::alloc::{AllocError, AllocFailed, Global};
+use std::alloc::{AllocError, Global};
 
 /// Room for this many bytes of a text is kept, however short the text.
 const SMALL_TEXT: usize = 64;
@@ -23,15 +23,15 @@ pub(crate) fn is_text_kept(capacity: usize, len: usize) -> bool {
 }
 
 /// Puts `blank` at the end if the place has no old element.
-fn make_room<T: Drop>(items: &mut Vec<T>, place: usize, blank: T) -> Result<(), AllocFailed<T>>
+fn make_room<T: Drop>(items: &mut Vec<T>, place: usize, blank: T) -> Result<(), AllocError>
     requires { place ≤ length items.old.items }
     ensures room { OnOk result (place < length items.new.items) }
     ensures before { OnOk result (take place items.new.items ≡ take place items.old.items) }
 {
-    if place < items.len() {
-        return Ok(());
+    if place >= items.len() {
+        items.push(blank)?;
     }
-    items.push(blank)
+    Ok(())
 }
 
 /// Drops the old elements after the first `count`, and gives room back that is too large.
@@ -50,10 +50,7 @@ pub(crate) fn make_row_room(rows: &mut Vec<Row<'static>>, place: usize) -> Resul
     ensures room { OnOk result (place < length rows.new.items) }
     ensures before { OnOk result (take place rows.new.items ≡ take place rows.old.items) }
 {
-    match make_room(rows, place, None) {
-        Ok(()) => Ok(()),
-        Err(_) => Err(AllocError),
-    }
+    make_room(rows, place, None)
 }
 
 /// Drops the old elements of a list after the first `count`, as `cut_room` does.
@@ -76,10 +73,7 @@ pub(crate) fn make_pair_room(
         key: None,
         value: None,
     };
-    match make_room(pairs, place, none) {
-        Ok(()) => Ok(()),
-        Err(_) => Err(AllocError),
-    }
+    make_room(pairs, place, none)
 }
 
 /// Drops the old pairs of a map after the first `count`, as `cut_room` does.

@@ -1,7 +1,7 @@
 //! The reasons why a text isn't read straight to its row.
 
 use json::Invalid;
-use std::alloc::{AllocError, AllocFailed};
+use std::alloc::AllocError;
 
 /// The reason why a text wasn't read straight to its row.
 #[derive(Clone, Copy, Debug, Drop)]
@@ -14,12 +14,6 @@ pub enum Unread {
 
 impl From<AllocError> for Unread {
     fn from(_: AllocError) -> Unread {
-        Unread::OutOfMemory
-    }
-}
-
-impl<T: Drop> From<AllocFailed<T>> for Unread {
-    fn from(_: AllocFailed<T>) -> Unread {
         Unread::OutOfMemory
     }
 }
