@@ -53,8 +53,17 @@ def types():
         good(
             "names-with-line-ends",
             "shown types",
-            "a name with a line end makes more lines of what is shown",
+            "a name with a line end stands in backticks, with the line end's number, on one line of what is shown",
             File(named("a\nb", 'c"'), [[{"a\nb": 1, 'c"': 2}]]),
+        ),
+        good(
+            "names-in-backticks",
+            "shown types",
+            "names that stand in backticks: a backtick and a backslash are doubled, control characters are numbers",
+            File(
+                named("`", "\\u0041", "a:int>", "\x1b[2J", "\x7f", "\x85", "\xa0", "n"),
+                [[{"`": 1, "\\u0041": 2, "a:int>": 3, "\x1b[2J": 4, "\x7f": 5, "\x85": 6, "\xa0": 7, "n": 8}]],
+            ),
         ),
         good(
             "names-escaped",

@@ -39,20 +39,30 @@ class Type:
         """The schema's text."""
         inner = [child.text() for child in self.children]
         if self.kind == STRUCT:
-            inner = [f"{name}:{text}" for name, text in zip(self.names, inner)]
+            inner = [f"{name_text(name)}:{text}" for name, text in zip(self.names, inner)]
         return NAMES[self.kind] + (f"<{','.join(inner)}>" if self.children or self.kind == STRUCT else "")
 
     def can_be_said(self):
-        """Whether the text can be read back, and lines of JSON with it."""
-        return all(
-            re.fullmatch("[A-Za-z0-9_]+", name) and each.names.count(name) == 1
-            for each in self.columns()
-            for name in each.names
-        )
+        """Whether lines of JSON can be read as rows: no struct names a field twice."""
+        return all(each.names.count(name) == 1 for each in self.columns() for name in each.names)
+
+
+def name_text(name):
+    """A name in a schema's text: one of ASCII letters, digits and underscores as it is, any other in backticks."""
+    if re.fullmatch("[A-Za-z0-9_]+", name, re.ASCII):
+        return name
+    doubled = {"`": "``", "\\": "\\\\"}
+    return "`" + "".join(doubled.get(each) or shown_sign(each) for each in name) + "`"
+
+
+def shown_sign(sign):
+    """A sign of a name in backticks: the number of a control character, any other as it is."""
+    number = ord(sign)
+    return f"\\u{number:04x}" if number < 0x20 or 0x7F <= number < 0xA0 else sign
 
 
 def schema(text):
-    """The type that a text names."""
+    """The type that a text with plain names names."""
     found, rest = type_at(text)
     assert not rest
     return found

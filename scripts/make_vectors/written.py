@@ -1,5 +1,8 @@
 """What the writer's rules of docs/FORMAT.md make of rows: its choice of runs and dictionaries, its layout and its
 positions."""
+import re
+import shlex
+
 from . import runs
 from .file import File
 from .rows import BINARY, BOOLEAN, BYTE, LIST, MAP, STRING, STRUCT, cells
@@ -191,6 +194,11 @@ def written(root, rows, version, stride, stripe_rows):
     return File(root, stripes, (0, 11 if version == 1 else 12), stride=stride, writer=99, writer_version=6)
 
 
+def word(text):
+    """A schema's text as one word of a line: in quotes, as for a shell, if it has other signs than those of plain names."""
+    return text if re.fullmatch("[A-Za-z0-9_<>:,]+", text, re.ASCII) else shlex.quote(text)
+
+
 class Written:
     """The file that is written of a vector's rows, and the words that ask for it."""
 
@@ -198,7 +206,7 @@ class Written:
         file, self.name = vector.file, f"written/{vector.name}"
         rows, version = file.rows(), file.runs
         stripe_rows = max([len(file.stripes[0].rows) if file.stripes else 1, 1])
-        words = f"--schema {file.root.text()} --rle {version} --stride {file.stride} --stripe-rows {stripe_rows}"
+        words = f"--schema {word(file.root.text())} --rle {version} --stride {file.stride} --stripe-rows {stripe_rows}"
         self.words, self.key = words, (words, vector.parts()[".json"])
         self.file = written(plain_types(file.root), rows, version, file.stride, stripe_rows)
 

@@ -10,6 +10,7 @@ use serde_json::Value as Json;
 use std::alloc::{AllocError, Global};
 use std::borrow::{CowSlice, CowStr};
 
+mod names;
 mod page;
 
 // Long tables are texts, a case a line: the proof of each function that reads a table goes through each reference in

@@ -2,6 +2,8 @@ pub mod Depths
 pub mod WholeTexts
 pub mod Lending
 pub mod Texts
+pub mod NameTexts
+pub mod NameFronts
 pub mod OneText
 pub mod TextExclusion
 pub mod TextFronts

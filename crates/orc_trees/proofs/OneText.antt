@@ -1,10 +1,11 @@
 -- A text is of one plain type at most, whatever stands behind it.
-use Rattle.std.proofs.Common.{◌≡◌, ℕ, List, [], ◌∷◌, ◌++◌, Bool, true, false, cond, ◌==◌, Option, Some, None, codes, refl, sym, ap, ◌∙◌, subst, append_assoc, arith, get_or, append-nil}
+use Rattle.std.proofs.Common.{◌≡◌, ℕ, List, [], ◌++◌, Bool, true, false, cond, ◌==◌, Option, Some, None, codes, refl, sym, ap, ◌∙◌, subst, append_assoc, arith, get_or, append-nil}
 use Rattle.std.proofs.lemmas.List.{append_cancel_left}
 use Rattle.orc_values.specs.declared.kind.Scalar.{Scalar}
 use Rattle.orc_values.specs.declared.kind.Scalar.TheVariants as kind
 use Rattle.orc_values.specs.Shapes.{Shape, scalar, list_of, map_of, struct_of, Fields, no_field, field}
-use Rattle.orc_trees.specs.SchemaText.{kind_name, comma, colon, text, fields_text, is_word, AreWords, IsName, IsPlain, ArePlain}
+use Rattle.orc_trees.specs.SchemaText.{kind_name, comma, colon, text, fields_text, name_text, IsName, IsPlain, ArePlain}
+use Rattle.orc_trees.proofs.NameTexts.{bracket_ends, one_name, no_name}
 
 -- ---- the first bytes tell the kind
 
@@ -66,50 +67,17 @@ pub map_text : (k v : Shape) (o x : List ℕ) → text (map_of k v o) ++ x ≡ c
 map_text k v o x = five (codes "map<") (text k) (codes ",") (text v) (codes ">") x
 
 pub field_text : (first : Bool) (name : List ℕ) (s : Shape) (fs : Fields) (x : List ℕ)
-    → fields_text first (field name s fs) ++ x ≡ comma first ++ (name ++ (colon ++ (text s ++ (fields_text false fs ++ x))))
-field_text first name s fs x = five (comma first) name colon (text s) (fields_text false fs) x
+    → fields_text first (field name s fs) ++ x ≡ comma first ++ (name_text name ++ (colon ++ (text s ++ (fields_text false fs ++ x))))
+field_text first name s fs x = five (comma first) (name_text name) colon (text s) (fields_text false fs) x
 
--- ---- a name ends where its words do
+-- ---- fields
 
-word_first : (a b : ℕ) (v x y : List ℕ) → is_word b ≡ false → AreWords (a ∷ v) → b ∷ x ≡ (a ∷ v) ++ y → ⊥
-word_first a b v x y other words h =
-    let e : b ≡ a = cc in
-    let f : true ≡ false = sym words.0 ∙ ap is_word (sym e) ∙ other in
-    cc
+pub no_field_closes : (first : Bool) (name x y : List ℕ) → codes ">" ++ x ≡ comma first ++ (name_text name ++ y) → ⊥
+no_field_closes true name x y h = no_name name 62 x y bracket_ends (λ e. omega (arith, e)) h
+no_field_closes false name x y h = let e : ◌≡◌ {A = ℕ} 62 44 = ap (λ (b : List ℕ). get_or b 0 0) h in omega (arith, e)
 
--- words in front of two bytes that are none
-pub one_front : (v w : List ℕ) (a b : ℕ) (x y : List ℕ) → AreWords v → AreWords w → is_word a ≡ false → is_word b ≡ false → v ++ (a ∷ x) ≡ w ++ (b ∷ y) → (v ≡ w) × (a ≡ b) × (x ≡ y)
-one_front [] [] a b x y vs ws na nb h = (refl, cc, cc)
-one_front [] (c ∷ w) a b x y vs ws na nb h = absurd (word_first c a w x (b ∷ y) na ws h)
-one_front (c ∷ v) [] a b x y vs ws na nb h = absurd (word_first c b v y (a ∷ x) nb vs (sym h))
-one_front (c ∷ v) (d ∷ w) a b x y vs ws na nb h =
-    let e : c ≡ d = cc in
-    let f : v ++ (a ∷ x) ≡ w ++ (b ∷ y) = cc in
-    let r = one_front v w a b x y vs.1 ws.1 na nb f in
-    (rw (e, r.0) refl, r.1, r.2)
-
-pub colon_ends : is_word 58 ≡ false
-unfolding is_word
-colon_ends = refl
-
-pub bracket_ends : is_word 62 ≡ false
-unfolding is_word
-bracket_ends = refl
-
-pub one_name : (v w x y : List ℕ) → AreWords v → AreWords w → v ++ (colon ++ x) ≡ w ++ (colon ++ y) → (v ≡ w) × (x ≡ y)
-one_name v w x y vs ws h = let r = one_front v w 58 58 x y vs ws colon_ends colon_ends h in (r.0, r.2)
-
--- no name begins with a byte that is no word's
-no_name : (name : List ℕ) (b : ℕ) (x y : List ℕ) → is_word b ≡ false → IsName name → b ∷ x ≡ name ++ y → ⊥
-no_name [] b x y other is h = absurd (omega (arith, is.some))
-no_name (a ∷ v) b x y other is h = word_first a b v x y other is.words h
-
-pub no_field_closes : (first : Bool) (name x y : List ℕ) → IsName name → codes ">" ++ x ≡ comma first ++ (name ++ y) → ⊥
-no_field_closes true name x y is h = no_name name 62 x y bracket_ends is h
-no_field_closes false name x y is h = let e : ◌≡◌ {A = ℕ} 62 44 = ap (λ (b : List ℕ). get_or b 0 0) h in omega (arith, e)
-
-pub one_field : (first : Bool) (v w x y : List ℕ) → IsName v → IsName w → comma first ++ (v ++ (colon ++ x)) ≡ comma first ++ (w ++ (colon ++ y)) → (v ≡ w) × (x ≡ y)
-one_field first v w x y vs ws h = one_name v w x y vs.words ws.words (append_cancel_left (comma first) (v ++ (colon ++ x)) (w ++ (colon ++ y)) h)
+pub one_field : (first : Bool) (v w x y : List ℕ) → IsName v → IsName w → comma first ++ (name_text v ++ (colon ++ x)) ≡ comma first ++ (name_text w ++ (colon ++ y)) → (v ≡ w) × (x ≡ y)
+one_field first v w x y vs ws h = one_name v w x y vs ws (append_cancel_left (comma first) (name_text v ++ (colon ++ x)) (name_text w ++ (colon ++ y)) h)
 
 -- ---- one text
 
@@ -141,8 +109,8 @@ mutual
 
   pub one_fields : (first : Bool) (fs gs : Fields) (x y : List ℕ) → ArePlain fs → ArePlain gs → fields_text first fs ++ (codes ">" ++ x) ≡ fields_text first gs ++ (codes ">" ++ y) → (fs ≡ gs) × (x ≡ y)
   one_fields first no_field no_field x y a b h = (refl, append_cancel_left (codes ">") x y h)
-  one_fields first no_field (field name t gs) x y a b h = absurd (no_field_closes first name x _ b.0 (h ∙ field_text first name t gs (codes ">" ++ y)))
-  one_fields first (field name s fs) no_field x y a b h = absurd (no_field_closes first name y _ a.0 (sym h ∙ field_text first name s fs (codes ">" ++ x)))
+  one_fields first no_field (field name t gs) x y a b h = absurd (no_field_closes first name x _ (h ∙ field_text first name t gs (codes ">" ++ y)))
+  one_fields first (field name s fs) no_field x y a b h = absurd (no_field_closes first name y _ (sym h ∙ field_text first name s fs (codes ">" ++ x)))
   one_fields first (field name s fs) (field other t gs) x y a b h =
       let n = one_field first name other _ _ a.0 b.0 (sym (field_text first name s fs (codes ">" ++ x)) ∙ h ∙ field_text first other t gs (codes ">" ++ y)) in
       let r = one_text s t (fields_text false fs ++ (codes ">" ++ x)) (fields_text false gs ++ (codes ">" ++ y)) a.1 b.1 n.1 in

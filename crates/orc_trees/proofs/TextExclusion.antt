@@ -2,7 +2,7 @@
 use Rattle.std.proofs.Common.{◌≡◌, ℕ, zero, suc, ◌<◌, List, ◌++◌, Bool, true, false, codes, refl, sym, ◌∙◌, arith}
 use Rattle.std.proofs.lemmas.List.{append_cancel_left}
 use Rattle.orc_values.specs.Shapes.{Shape, scalar, list_of, map_of, struct_of, Fields, no_field, field, depth, depths}
-use Rattle.orc_trees.specs.SchemaText.{comma, colon, text, fields_text, IsName, IsPlain, ArePlain}
+use Rattle.orc_trees.specs.SchemaText.{comma, colon, text, fields_text, name_text, IsName, IsPlain, ArePlain}
 use Rattle.orc_trees.specs.TextFaults.{is_empty, element, key, value, member, Opens}
 use Rattle.orc_trees.proofs.Depths.{depth_pos}
 use Rattle.orc_trees.proofs.OneText.{kind_or_map, array_or_map, map_or_struct, map_text, kind_or_array, kind_or_struct, array_or_struct, array_text, struct_text, field_text, no_field_closes, one_field, one_text}
@@ -52,17 +52,17 @@ mutual
       omega arith
 
   opens_fields : (first : Bool) (fs before : Fields) (name inner rest : List ℕ) (steps : ℕ) → ArePlain fs → ArePlain before → IsName name
-      → fields_text first fs ++ (codes ">" ++ rest) ≡ fields_text first before ++ (comma (begins first before) ++ (name ++ (colon ++ inner))) → Opens inner steps → steps < depths fs
-  opens_fields first no_field no_field name inner rest steps a b is h way = absurd (no_field_closes first name rest (colon ++ inner) is h)
+      → fields_text first fs ++ (codes ">" ++ rest) ≡ fields_text first before ++ (comma (begins first before) ++ (name_text name ++ (colon ++ inner))) → Opens inner steps → steps < depths fs
+  opens_fields first no_field no_field name inner rest steps a b is h way = absurd (no_field_closes first name rest (colon ++ inner) h)
   opens_fields first no_field (field other t gs) name inner rest steps a b is h way =
-      absurd (no_field_closes first other rest _ b.0 (h ∙ field_text first other t gs (comma false ++ (name ++ (colon ++ inner)))))
+      absurd (no_field_closes first other rest _ (h ∙ field_text first other t gs (comma false ++ (name_text name ++ (colon ++ inner)))))
   opens_fields first (field other s fs) no_field name inner rest steps a b is h way =
       let n = one_field first other name _ inner a.0 is (sym (field_text first other s fs (codes ">" ++ rest)) ∙ h) in
       let more : steps < depth s = opens_tree s inner (fields_text false fs ++ (codes ">" ++ rest)) steps a.1 (sym n.1) way in
       omega arith
   opens_fields first (field other s fs) (field another t gs) name inner rest steps a b is h way =
-      let n = one_field first other another _ _ a.0 b.0 (sym (field_text first other s fs (codes ">" ++ rest)) ∙ h ∙ field_text first another t gs (comma false ++ (name ++ (colon ++ inner)))) in
-      let r = one_text s t (fields_text false fs ++ (codes ">" ++ rest)) (fields_text false gs ++ (comma false ++ (name ++ (colon ++ inner)))) a.1 b.1 n.1 in
-      let later : fields_text false fs ++ (codes ">" ++ rest) ≡ fields_text false gs ++ (comma (begins false gs) ++ (name ++ (colon ++ inner))) = rw begins_later r.1 in
+      let n = one_field first other another _ _ a.0 b.0 (sym (field_text first other s fs (codes ">" ++ rest)) ∙ h ∙ field_text first another t gs (comma false ++ (name_text name ++ (colon ++ inner)))) in
+      let r = one_text s t (fields_text false fs ++ (codes ">" ++ rest)) (fields_text false gs ++ (comma false ++ (name_text name ++ (colon ++ inner)))) a.1 b.1 n.1 in
+      let later : fields_text false fs ++ (codes ">" ++ rest) ≡ fields_text false gs ++ (comma (begins false gs) ++ (name_text name ++ (colon ++ inner))) = rw begins_later r.1 in
       let more : steps < depths fs = opens_fields false fs gs name inner rest steps a.2 b.2 is later way in
       omega arith

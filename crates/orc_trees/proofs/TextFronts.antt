@@ -1,49 +1,20 @@
 -- What stands at the front of a text, and what stands there not.
-use Rattle.std.proofs.Common.{◌≡◌, ◌≢◌, ℕ, zero, suc, ◌-◌, ◌<◌, ◌≤◌, ◌⊎◌, List, [], ◌∷◌, ◌++◌, length, get_or, take, drop, Bool, true, false, ◌==◌, codes, refl, sym, ap, ◌∙◌, subst, arith, length-append, sub-one, drop-cons, inl, inr}
-use Rattle.std.specs.List.{AllByRecursion, All}
-use Rattle.std.specs.Str.{is_utf8}
-use Rattle.std.proofs.lemmas.Str.{is_utf8-from_IsUtf8, IsUtf8-from_ascii}
-use Rattle.std.proofs.lemmas.Str.Ascii.{IsAscii-from_all}
-use Rattle.std.proofs.lemmas.List.{append_cancel_left, take-append-drop, take_all, drop_all}
+use Rattle.std.proofs.Common.{◌≡◌, ◌≢◌, ℕ, zero, suc, ◌-◌, ◌<◌, ◌≤◌, List, [], ◌∷◌, ◌++◌, length, get_or, drop, Bool, true, false, ◌==◌, codes, refl, sym, ap, ◌∙◌, subst, arith, length-append, sub-one, drop-cons}
+use Rattle.std.specs.List.{AllByRecursion}
+use Rattle.std.proofs.lemmas.List.{append_cancel_left, drop_all}
 use Rattle.orc_values.specs.declared.kind.Scalar.{Scalar}
 use Rattle.orc_values.specs.declared.kind.Scalar.TheVariants as kind
 use Rattle.orc_trees.specs.declared.fault.TypeFault.{TypeFault}
 use Rattle.orc_trees.specs.declared.fault.TypeFault.TheVariants as fault
 use Rattle.orc_values.specs.Shapes.{Shape, scalar, list_of, map_of, struct_of, Fields, no_field, field, depth, depths}
-use Rattle.orc_trees.specs.SchemaText.{kind_name, comma, colon, text, fields_text, is_word, AreWords, IsName, IsPlain, ArePlain}
+use Rattle.orc_trees.specs.SchemaText.{kind_name, comma, colon, text, fields_text, name_text, IsName, IsPlain, ArePlain}
 use Rattle.orc_trees.specs.TextFaults.{is_empty, EntersField, EntersType, element, key, value, member, Opens}
-use Rattle.orc_trees.specs.TextFronts.{IsTypeFront, IsFieldFront, IsFieldsFront, NoFront, NoFieldFront, NoFieldsFront, FrontFaultBy, FrontFault, NoSigned, SignedFault, FieldOpens, FieldFault, FieldsFault}
-use Rattle.orc_trees.specs.NameFaults.{NameFault}
+use Rattle.orc_trees.specs.TextFronts.{IsTypeFront, IsFieldFront, IsFieldsFront, NoFront, NoFieldFront, NoFieldsFront, FrontFaultBy, FrontFault, NoSigned, SignedFault, NoNameFront, NameFrontFault, FieldOpens, FieldFault, FieldsFault}
 use Rattle.orc_values.specs.Views.{fields_of, fields}
 use Rattle.orc_values.specs.declared.tree.Field.{Field}
 use Rattle.std.proofs.Math.Dec.{eqb-suc-zero}
-use Rattle.std.proofs.lemmas.Bool.Decides.{nat_tests}
-use Rattle.orc_trees.proofs.OneText.{kind_or_map, array_or_map, map_or_struct, map_text, colon_ends, one_front, kind_or_array, kind_or_struct, array_or_struct, array_text, struct_text, field_text, no_field_closes, one_field, one_text}
+use Rattle.orc_trees.proofs.OneText.{kind_or_map, array_or_map, map_or_struct, map_text, kind_or_array, kind_or_struct, array_or_struct, array_text, struct_text, field_text, no_field_closes, one_field, one_text}
 use Rattle.orc_trees.proofs.TextExclusion.{begins, begins_later, begins_first}
-
--- ---- names
-
-words_behind : (name y : List ℕ) → AreWords (name ++ y) → AreWords y
-words_behind [] y words = words
-words_behind (a ∷ name) y words = words_behind name y words.1
-
--- nothing but words
-pub all_words : (bytes : List ℕ) (i : ℕ) (name rest : List ℕ) → length bytes ≤ i → AreWords (take i bytes) → bytes ≢ name ++ (colon ++ rest)
-all_words bytes i name rest h words e =
-    let yes : is_word 58 ≡ true = (words_behind name (colon ++ rest) (subst AreWords (take_all i bytes h ∙ e) words)).0 in
-    let other : is_word 58 ≡ false = colon_ends in
-    cc
-
--- the words end at once, or without a colon
-pub other_end : (bytes : List ℕ) (i : ℕ) (name rest : List ℕ) → i < length bytes → AreWords (take i bytes) → is_word (get_or bytes i 0) ≡ false → (i ≡ 0) ⊎ (get_or bytes i 0 ≢ 58) → IsName name
-    → bytes ≢ name ++ (colon ++ rest)
-other_end bytes i name rest h words ends wrong is e =
-    let here : take i bytes ++ (get_or bytes i 0 ∷ drop (suc i) bytes) ≡ name ++ (58 ∷ rest) = ap (λ (r : List ℕ). take i bytes ++ r) (sym (drop-cons bytes i 0 h)) ∙ take-append-drop i bytes ∙ e in
-    let r = one_front (take i bytes) name (get_or bytes i 0) 58 (drop (suc i) bytes) rest words is.words ends colon_ends here in
-    elim wrong [
-      | inl none ↦ (let empty : length name ≡ 0 = ap length (sym r.0) ∙ ap (λ (n : ℕ). length (take n bytes)) none in absurd (omega (arith, is.some)))
-      | inr other ↦ other r.1
-    ]
 
 -- ---- kinds
 
@@ -192,33 +163,17 @@ struct_fault bytes inner d f p h =
 
 -- ---- a field
 
-word_ascii : (b : ℕ) → is_word b ≡ true → b < 128
-unfolding is_word
-word_ascii b h = grind (arith, nat_tests)
-
-ascii : (bytes : List ℕ) → AreWords bytes → All (λ b. b < 128) bytes
-ascii [] words k d h = absurd (omega arith)
-ascii (b ∷ bytes) words zero d h = word_ascii b words.0
-ascii (b ∷ bytes) words (suc k) d h = ascii bytes words.1 k d (omega arith)
-
--- names are text
-pub name_text : (name : List ℕ) → IsName name → is_utf8 name ≡ true
-name_text name is = is_utf8-from_IsUtf8 name (IsUtf8-from_ascii name (IsAscii-from_all name (ascii name is.words)))
-
-pub name_fault : (bytes : List ℕ) (first : Bool) (d : ℕ) (name : List ℕ) (f : TypeFault) → IsName name → NameFault name f → FieldFault bytes first d f
-name_fault bytes first d name (fault.UnsupportedKind k) is bad = bad
-name_fault bytes first d name fault.BadTree is bad = bad
-name_fault bytes first d name fault.TooDeep is bad = absurd bad
-name_fault bytes first d name fault.TooMany is bad = bad
-name_fault bytes first d name fault.RootNotStruct is bad = bad
-name_fault bytes first d name (fault.BadText left) is bad = (let wrong : true ≡ false = sym (name_text name is) ∙ bad.1 in cc)
-name_fault bytes first d name fault.OutOfMemory is bad = tt
+-- why a field is refused for its name
+pub name_fault : (bytes named : List ℕ) (first : Bool) (d : ℕ) (f : TypeFault) → bytes ≡ comma first ++ named → NameFrontFault named f → FieldFault bytes first d f
+name_fault bytes named first d f h =
+    fault_turned named bytes ⊥ (FieldOpens bytes first d) (NoNameFront named) (NoFieldFront bytes first) f (behind bytes (comma first) named h) (λ none. absurd none)
+    (λ none name s rest is plain e. none name (text s ++ rest) is (append_cancel_left (comma first) named (name_text name ++ (colon ++ (text s ++ rest))) (sym h ∙ e)))
 
 -- why a field is refused for its type
-pub type_fault : (bytes named inner : List ℕ) (first : Bool) (d : ℕ) (name : List ℕ) (f : TypeFault) → bytes ≡ comma first ++ named → named ≡ name ++ (colon ++ inner) → IsName name → FrontFault inner d f → FieldFault bytes first d f
+pub type_fault : (bytes named inner : List ℕ) (first : Bool) (d : ℕ) (name : List ℕ) (f : TypeFault) → bytes ≡ comma first ++ named → named ≡ name_text name ++ (colon ++ inner) → IsName name → FrontFault inner d f → FieldFault bytes first d f
 type_fault bytes named inner first d name f h e is =
-    let whole : bytes ≡ comma first ++ (name ++ (colon ++ inner)) = h ∙ ap (λ (r : List ℕ). comma first ++ r) e in
-    let most : length inner ≤ length bytes = omega (arith, behind bytes (comma first) named h, behind named name (colon ++ inner) e, behind (colon ++ inner) colon inner refl) in
+    let whole : bytes ≡ comma first ++ (name_text name ++ (colon ++ inner)) = h ∙ ap (λ (r : List ℕ). comma first ++ r) e in
+    let most : length inner ≤ length bytes = omega (arith, behind bytes (comma first) named h, behind named (name_text name) (colon ++ inner) e, behind (colon ++ inner) colon inner refl) in
     fault_turned inner bytes (Opens inner d) (FieldOpens bytes first d) (NoFront inner) (NoFieldFront bytes first) f most
     (λ deep. record { name = name; inner = inner; named = is; spelled = whole; deeper = deep })
     (λ none other s rest other_is plain g. none s rest plain (one_field first name other inner (text s ++ rest) is other_is (sym whole ∙ g)).1)
@@ -226,13 +181,13 @@ type_fault bytes named inner first d name f h e is =
 -- ---- fields, one after the other
 
 fields_push : (first : Bool) (gs : List (List ℕ × Shape)) (name : List ℕ) (s : Shape) (x : List ℕ)
-    → fields_text first (fields_of (gs ++ (name, s) ∷ [])) ++ x ≡ fields_text first (fields_of gs) ++ (comma (begins first (fields_of gs)) ++ (name ++ (colon ++ (text s ++ x))))
+    → fields_text first (fields_of (gs ++ (name, s) ∷ [])) ++ x ≡ fields_text first (fields_of gs) ++ (comma (begins first (fields_of gs)) ++ (name_text name ++ (colon ++ (text s ++ x))))
 fields_push first [] name s x = field_text first name s no_field x
 fields_push first (g ∷ gs) name s x =
-    let later : fields_text false (fields_of (gs ++ (name, s) ∷ [])) ++ x ≡ fields_text false (fields_of gs) ++ (comma false ++ (name ++ (colon ++ (text s ++ x)))) =
-    fields_push false gs name s x ∙ ap (λ (b : Bool). fields_text false (fields_of gs) ++ (comma b ++ (name ++ (colon ++ (text s ++ x))))) (begins_later (fields_of gs)) in
-    field_text first g.0 g.1 (fields_of (gs ++ (name, s) ∷ [])) x ∙ ap (λ (r : List ℕ). comma first ++ (g.0 ++ (colon ++ (text g.1 ++ r)))) later
-    ∙ sym (field_text first g.0 g.1 (fields_of gs) (comma false ++ (name ++ (colon ++ (text s ++ x)))))
+    let later : fields_text false (fields_of (gs ++ (name, s) ∷ [])) ++ x ≡ fields_text false (fields_of gs) ++ (comma false ++ (name_text name ++ (colon ++ (text s ++ x)))) =
+    fields_push false gs name s x ∙ ap (λ (b : Bool). fields_text false (fields_of gs) ++ (comma b ++ (name_text name ++ (colon ++ (text s ++ x))))) (begins_later (fields_of gs)) in
+    field_text first g.0 g.1 (fields_of (gs ++ (name, s) ∷ [])) x ∙ ap (λ (r : List ℕ). comma first ++ (name_text g.0 ++ (colon ++ (text g.1 ++ r)))) later
+    ∙ sym (field_text first g.0 g.1 (fields_of gs) (comma false ++ (name_text name ++ (colon ++ (text s ++ x)))))
 
 plain_push : (gs : List (List ℕ × Shape)) (name : List ℕ) (s : Shape) → ArePlain (fields_of gs) → IsName name → IsPlain s → ArePlain (fields_of (gs ++ (name, s) ∷ []))
 plain_push [] name s all is plain = (is, plain, tt)
@@ -261,7 +216,7 @@ pub reached_none : (bytes : List ℕ) (d : ℕ) → Reached bytes d [] bytes
 reached_none bytes d = record { plain = tt; depth = omega arith; spelled = refl; none = λ h. h }
 
 next_none : (left : List ℕ) (first : Bool) (d : ℕ) (name : List ℕ) (s : Shape) (rest : List ℕ) → IsFieldFront left first d name s rest → NoFieldsFront rest false → NoFieldsFront left first
-next_none left first d name s rest found none no_field x plain h = no_field_closes first name x _ found.named (sym h ∙ found.spelled)
+next_none left first d name s rest found none no_field x plain h = no_field_closes first name x _ (sym h ∙ found.spelled)
 next_none left first d name s rest found none (field other t fs) x plain h =
     let n = one_field first name other (text s ++ rest) _ found.named plain.0 (sym found.spelled ∙ h ∙ field_text first other t fs (codes ">" ++ x)) in
     let r = one_text s t rest (fields_text false fs ++ (codes ">" ++ x)) found.plain plain.1 n.1 in
@@ -274,7 +229,7 @@ reached_more bytes d gs left first name s rest e found r =
     record {
       plain = plain_push gs name s r.plain found.named found.plain;
       depth = depths_push gs name s d r.depth found.depth;
-      spelled = r.spelled ∙ ap (λ (x : List ℕ). fields_text true (fields_of gs) ++ x) (found.spelled ∙ ap (λ (c : List ℕ). c ++ (name ++ (colon ++ (text s ++ rest)))) here) ∙ sym (fields_push true gs name s rest);
+      spelled = r.spelled ∙ ap (λ (x : List ℕ). fields_text true (fields_of gs) ++ x) (found.spelled ∙ ap (λ (c : List ℕ). c ++ (name_text name ++ (colon ++ (text s ++ rest)))) here) ∙ sym (fields_push true gs name s rest);
       none = λ later. r.none (subst (NoFieldsFront left) e (next_none left first d name s rest found (subst (NoFieldsFront rest) (not_empty gs (name, s)) later)));
     }
 
@@ -299,7 +254,7 @@ field_fault bytes d gs left first f e goes_on r =
         name = deep.name;
         plain = r.plain;
         named = deep.named;
-        spelled = r.spelled ∙ ap (λ (x : List ℕ). fields_text true (fields_of gs) ++ x) (deep.spelled ∙ ap (λ (b : Bool). comma b ++ (deep.name ++ (colon ++ deep.inner))) e);
+        spelled = r.spelled ∙ ap (λ (x : List ℕ). fields_text true (fields_of gs) ++ x) (deep.spelled ∙ ap (λ (b : Bool). comma b ++ (name_text deep.name ++ (colon ++ deep.inner))) e);
       },
       deep.deeper,
     ))

@@ -5,7 +5,7 @@ use Rattle.orc_values.specs.declared.kind.Scalar.TheVariants as kind
 use Rattle.orc_trees.specs.declared.fault.TypeFault.{TypeFault}
 use Rattle.orc_trees.specs.declared.fault.TypeFault.TheVariants as fault
 use Rattle.orc_values.specs.Shapes.{Shape, scalar, list_of, map_of, struct_of, Fields, no_field, field, width, widths}
-use Rattle.orc_trees.specs.SchemaText.{kind_name, comma, colon, text, fields_text, IsPlain}
+use Rattle.orc_trees.specs.SchemaText.{kind_name, comma, colon, text, fields_text, name_text, IsPlain}
 use Rattle.orc_trees.specs.TextFaults.{TextFault}
 use Rattle.orc_trees.specs.TextFronts.{IsTypeFront, FrontFault}
 use Rattle.orc_trees.proofs.OneText.{one_text}
@@ -34,7 +34,7 @@ mutual
 
   widths_text : (first : Bool) (fs : Fields) → widths fs ≤ length (fields_text first fs)
   widths_text first no_field = omega arith
-  widths_text first (field name s fs) = omega (arith, field_long (comma first) name colon (text s) (fields_text false fs), width_text s, widths_text false fs)
+  widths_text first (field name s fs) = omega (arith, field_long (comma first) (name_text name) colon (text s) (fields_text false fs), width_text s, widths_text false fs)
 
 pub front_width : (bytes : List ℕ) (d : ℕ) (s : Shape) → IsTypeFront bytes d s [] → width s ≤ length bytes
 front_width bytes d s found = omega (arith, width_text s, ap length (found.spelled ∙ append-nil (text s)))

@@ -1,7 +1,7 @@
 -- Why a text is no schema's (ORC specification, "Types", and this project's limits).
 use Rattle.std.specs.Prelude.{◌≡◌, ◌<◌, ◌≤◌, ℕ, zero, suc, List, ◌++◌, length, Bool, true, false, codes}
 use Rattle.orc_values.specs.Shapes.{Shape, Fields, no_field, field, width, IsStruct}
-use Rattle.orc_trees.specs.SchemaText.{text, fields_text, comma, colon, IsName, IsPlain, ArePlain}
+use Rattle.orc_trees.specs.SchemaText.{text, fields_text, comma, colon, name_text, IsName, IsPlain, ArePlain}
 use Rattle.orc_trees.specs.declared.fault.TypeFault.{TypeFault}
 use Rattle.orc_trees.specs.declared.fault.TypeFault.TheVariants as fault
 
@@ -16,7 +16,7 @@ pub record EntersField (bytes inner : List ℕ) : Type 0 where
   pub name : List ℕ
   pub plain : ArePlain before
   pub named : IsName name
-  pub spelled : bytes ≡ fields_text true before ++ (comma (is_empty before) ++ (name ++ (colon ++ inner)))
+  pub spelled : bytes ≡ fields_text true before ++ (comma (is_empty before) ++ (name_text name ++ (colon ++ inner)))
 
 -- the text up to an array's element, a map's key or value, or a struct's field's type, and then the inner text
 pub data EntersType (bytes inner : List ℕ) : Type 0 where

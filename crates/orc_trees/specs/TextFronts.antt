@@ -1,7 +1,7 @@
 -- The type whose text stands at the front of some bytes (ORC specification, "Types").
 use Rattle.std.specs.Prelude.{◌≡◌, ◌≤◌, ℕ, List, ◌++◌, length, Bool, true, codes}
 use Rattle.orc_values.specs.Shapes.{Shape, Fields, depth, depths}
-use Rattle.orc_trees.specs.SchemaText.{text, fields_text, comma, colon, IsName, IsPlain, ArePlain}
+use Rattle.orc_trees.specs.SchemaText.{text, fields_text, comma, colon, name_text, IsName, IsPlain, ArePlain}
 use Rattle.orc_trees.specs.TextFaults.{Opens, EntersField}
 use Rattle.orc_trees.specs.declared.fault.TypeFault.{TypeFault}
 use Rattle.orc_trees.specs.declared.fault.TypeFault.TheVariants as fault
@@ -18,7 +18,7 @@ pub record IsFieldFront (bytes : List ℕ) (first : Bool) (levels : ℕ) (name :
   pub named : IsName name
   pub plain : IsPlain s
   pub depth : depth s ≤ levels
-  pub spelled : bytes ≡ comma first ++ (name ++ (colon ++ (text s ++ rest)))
+  pub spelled : bytes ≡ comma first ++ (name_text name ++ (colon ++ (text s ++ rest)))
 
 -- the fields' text up to the bracket that closes it, and then the rest
 pub record IsFieldsFront (bytes : List ℕ) (levels : ℕ) (fs : Fields) (rest : List ℕ) : Type 0 where
@@ -36,7 +36,7 @@ NoFieldFront bytes first =
     (name : List ℕ) (s : Shape) (rest : List ℕ)
     → IsName name
     → IsPlain s
-    → bytes ≡ comma first ++ (name ++ (colon ++ (text s ++ rest)))
+    → bytes ≡ comma first ++ (name_text name ++ (colon ++ (text s ++ rest)))
     → ⊥
 
 -- no list of fields, to its closing bracket, stands in front of these bytes
@@ -50,6 +50,14 @@ FrontFaultBy bytes deep wrong fault.TooDeep = deep
 FrontFaultBy bytes deep wrong (fault.BadText left) = (left ≤ length bytes) × wrong
 FrontFaultBy bytes deep wrong fault.OutOfMemory = Unit {0}
 FrontFaultBy bytes deep wrong _ = ⊥
+
+-- no name's text and colon stand in front
+abbrev pub NoNameFront : List ℕ → Type 0
+NoNameFront bytes = (name rest : List ℕ) → IsName name → bytes ≡ name_text name ++ (colon ++ rest) → ⊥
+
+-- no name
+abbrev pub NameFrontFault : List ℕ → TypeFault → Type 0
+NameFrontFault bytes f = FrontFaultBy bytes ⊥ (NoNameFront bytes) f
 
 -- no type of so many levels
 abbrev pub FrontFault : List ℕ → ℕ → TypeFault → Type 0
@@ -68,7 +76,7 @@ pub record FieldOpens (bytes : List ℕ) (first : Bool) (levels : ℕ) : Type 0 
   pub name : List ℕ
   pub inner : List ℕ
   pub named : IsName name
-  pub spelled : bytes ≡ comma first ++ (name ++ (colon ++ inner))
+  pub spelled : bytes ≡ comma first ++ (name_text name ++ (colon ++ inner))
   pub deeper : Opens inner levels
 
 -- no field

@@ -5,8 +5,10 @@ mod columns;
 mod fault;
 mod laws;
 mod lent;
+mod name_text;
 mod names;
 mod schema_text;
+mod words;
 
 pub use columns::{cells_of, lend_all};
 pub use fault::TypeFault;

@@ -7,7 +7,11 @@ use crate::fault::TypeFault;
 use std::alloc::Global;
 use std::str;
 
-/// A field's name as text.
+/// Copies a field's name.
+///
+/// # Errors
+///
+/// `BadText` if the bytes aren't UTF-8; `OutOfMemory`.
 pub fn name_of(alloc: Global, bytes: &[u8]) -> Result<String, TypeFault>
     // A returned name has these bytes, and they are UTF-8.
     ensures text { IfOk result (λ name. string_bytes name ≡ bytes.now) }

@@ -8,7 +8,8 @@ ghost use Rattle.orc_values.specs.declared.kind.Scalar.{Scalar};
 ghost use Rattle.orc_values.specs.Views.{shape, fields as fields_view};
 
 use crate::fault::TypeFault;
-use crate::names::name_of;
+use crate::name_text::{name_from, put_name};
+use crate::words::{add, text_behind};
 use orc_values::{Field, Scalar, Tree};
 use std::alloc::{AllocError, Global};
 
@@ -43,17 +44,14 @@ fn kind_name(kind: Scalar) -> &'static str
     }
 }
 
-/// Adds a text at the end.
-fn add(text: &mut String, more: &str) -> Result<(), AllocError>
-    ensures { OnOk result (string_bytes text.new ≡ string_bytes text.old ++ more.now) }
-{
-    text.push_str(more)
-}
-
-/// Adds the text of a type.
+/// Adds the text of a type at the end.
+///
+/// # Errors
+///
+/// `AllocError` if there is no memory for it.
 #[cycle(put)]
 pub fn put_tree(text: &mut String, tree: &Tree) -> Result<(), AllocError>
-    // Unless memory is refused, the type's text stands behind what was there.
+    // Unless memory runs out, `text` is what it was, with the type's text after it.
     ensures { OnOk result (string_bytes text.new ≡ string_bytes text.old ++ spec.text (shape tree.now)) }
 {
     match tree {
@@ -83,14 +81,14 @@ pub fn put_tree(text: &mut String, tree: &Tree) -> Result<(), AllocError>
 fn put_field(text: &mut String, first: bool, field: &Field) -> Result<(), AllocError>
     ensures { OnOk result (string_bytes text.new ≡ string_bytes text.old
         ++ spec.comma first
-        ++ string_bytes field.now.name
+        ++ spec.name_text (string_bytes field.now.name)
         ++ spec.colon
         ++ spec.text (shape field.now.tree)) }
 {
     if !first {
         add(text, ",")?;
     }
-    add(text, field.name.as_str())?;
+    put_name(text, field.name.as_str())?;
     add(text, ":")?;
     put_tree(text, &field.tree)
 }
@@ -107,16 +105,8 @@ fn put_fields(text: &mut String, fields: &Vec<Field>) -> Result<(), AllocError>
     Ok(())
 }
 
-/// What stands behind a word, if the text begins with the word.
-fn text_behind<'t>(text: &'t [u8], word: &str) -> Option<&'t [u8]>
-    ensures { MatchOption result ((rest : List ℕ) → text.now ≢ word.now ++ rest)
-        (λ rest. text.now ≡ word.now ++ rest.now) }
-{
-    text.strip_prefix(word.as_bytes())
-}
-
 /// What stands behind the comma that each field but the first has in front.
-fn text_behind_comma<'t>(text: &'t [u8], first: bool) -> Option<&'t [u8]>
+fn text_behind_comma<'t>(text: &'t str, first: bool) -> Option<&'t str>
     ensures { MatchOption result ((rest : List ℕ) → text.now ≢ spec.comma first ++ rest)
         (λ rest. text.now ≡ spec.comma first ++ rest.now) }
 {
@@ -127,34 +117,8 @@ fn text_behind_comma<'t>(text: &'t [u8], first: bool) -> Option<&'t [u8]>
     }
 }
 
-/// Whether a byte can stand in a name.
-#[tactic(auto, unfolding(crate::specs::SchemaText::is_word))]
-fn is_word(byte: u8) -> bool
-    ensures { result ≡ spec.is_word byte }
-{
-    byte.is_ascii_alphanumeric() || byte == b'_'
-}
-
-/// The name that a text begins with, and what stands behind its colon.
-fn name_from(text: &[u8]) -> Option<(&[u8], &[u8])>
-    ensures name { IfSome result (λ found. spec.IsName found.0.now) }
-    ensures found { IfSome result (λ found. text.now ≡ found.0.now ++ (spec.colon ++ found.1.now)) }
-    ensures none { IfNone result ((name rest : List ℕ) → spec.IsName name → text.now ≢ name ++ (spec.colon ++ rest)) }
-{
-    for (i, byte) in text.iter().enumerate() {
-        if !is_word(*byte) {
-            let empty = i == 0;
-            if empty || *byte != b':' {
-                return None;
-            }
-            return Some((&text[..i], &text[i + 1..]));
-        }
-    }
-    None
-}
-
 /// The kind whose name a text begins with, and what stands behind it.
-fn kind_from(text: &[u8]) -> Option<(Scalar, &[u8])>
+fn kind_from(text: &str) -> Option<(Scalar, &str)>
     ensures found { IfSome result (λ found. text.now ≡ spec.kind_name found.0 ++ found.1.now) }
     ensures none { IfNone result ((kind : Scalar) (rest : List ℕ) → text.now ≢ spec.kind_name kind ++ rest) }
 {
@@ -169,7 +133,7 @@ fn kind_from(text: &[u8]) -> Option<(Scalar, &[u8])>
 /// The type whose text stands in front, if it has at most that many levels, and the rest. In a text
 /// that is read from the front, `BadText` has the number of bytes that are left where it goes wrong.
 #[cycle(front)]
-fn tree_from<'t>(alloc: Global, text: &'t [u8], levels: u32) -> Result<(Tree, &'t [u8]), TypeFault>
+fn tree_from<'t>(alloc: Global, text: &'t str, levels: u32) -> Result<(Tree, &'t str), TypeFault>
     ensures found { IfOk result (λ found. IsTypeFront text.now levels (shape found.0) found.1.now) }
     ensures fault { IfErr result (FrontFault text.now levels) }
 {
@@ -199,10 +163,10 @@ fn tree_from<'t>(alloc: Global, text: &'t [u8], levels: u32) -> Result<(Tree, &'
 #[cycle(front)]
 fn tree_before<'t>(
     alloc: Global,
-    text: &'t [u8],
+    text: &'t str,
     sign: &str,
     levels: u32,
-) -> Result<(Box<Tree>, &'t [u8]), TypeFault>
+) -> Result<(Box<Tree>, &'t str), TypeFault>
     ensures found { IfOk result (λ found. IsTypeFront text.now levels (shape found.0.value) (sign.now ++ found.1.now)) }
     ensures fault { IfErr result (SignedFault text.now sign.now levels) }
 {
@@ -218,10 +182,10 @@ fn tree_before<'t>(
 #[cycle(front)]
 fn field_from<'t>(
     alloc: Global,
-    text: &'t [u8],
+    text: &'t str,
     first: bool,
     levels: u32,
-) -> Result<(Field, &'t [u8]), TypeFault>
+) -> Result<(Field, &'t str), TypeFault>
     ensures found { IfOk result
         (λ found. IsFieldFront text.now first levels (string_bytes found.0.name) (shape found.0.tree) found.1.now) }
     ensures fault { IfErr result (FieldFault text.now first levels) }
@@ -229,10 +193,7 @@ fn field_from<'t>(
     let Some(named) = text_behind_comma(text, first) else {
         return Err(TypeFault::BadText(text.len()));
     };
-    let Some((name, inner)) = name_from(named) else {
-        return Err(TypeFault::BadText(named.len()));
-    };
-    let name = name_of(alloc, name)?;
+    let (name, inner) = name_from(alloc, named)?;
     let (tree, rest) = tree_from(alloc, inner, levels)?;
     Ok((Field { name, tree }, rest))
 }
@@ -241,9 +202,9 @@ fn field_from<'t>(
 #[cycle(front)]
 fn fields_from<'t>(
     alloc: Global,
-    text: &'t [u8],
+    text: &'t str,
     levels: u32,
-) -> Result<(Vec<Field>, &'t [u8]), TypeFault>
+) -> Result<(Vec<Field>, &'t str), TypeFault>
     ensures found { IfOk result (λ found. IsFieldsFront text.now levels (fields_view found.0.items) found.1.now) }
     ensures fault { IfErr result (FieldsFault text.now levels) }
 {
@@ -259,7 +220,7 @@ fn fields_from<'t>(
     }
 }
 
-/// Whether a type is a STRUCT.
+/// Returns whether a type is a STRUCT.
 pub fn is_struct(tree: &Tree) -> bool
     // The answer is whether the type is a STRUCT.
     ensures { IsTrue result ↔ IsStruct (shape tree.now) }
@@ -268,7 +229,7 @@ pub fn is_struct(tree: &Tree) -> bool
 }
 
 /// The fault with its place counted from the front of the text.
-fn fault_from_front(text: &[u8], fault: TypeFault) -> TypeFault
+fn fault_from_front(text: &str, fault: TypeFault) -> TypeFault
     requires { FrontFault text.now 32 fault }
     ensures { FrontFault text.now 32 result }
 {
@@ -278,22 +239,31 @@ fn fault_from_front(text: &[u8], fault: TypeFault) -> TypeFault
     }
 }
 
-/// The type that a whole text tells.
-pub fn whole_tree(alloc: Global, text: &[u8]) -> Result<Tree, TypeFault>
-    // `text` is the text of a returned type, which has at most 32 levels, each of whose names is made of one or more
-    // ASCII letters, digits and underscores, and whose types keep no other fields.
+/// Reads the text of a type, which has at most 32 levels.
+///
+/// # Errors
+///
+/// `BadText` with the place where the text goes wrong, or where a wrong name begins; `TooDeep` above 32 levels;
+/// `OutOfMemory`.
+pub fn whole_tree(alloc: Global, text: &str) -> Result<Tree, TypeFault>
+    // `text` is the text of a returned type, which has at most 32 levels, whose names are UTF-8, and whose types keep no
+    // other fields.
     ensures found { IfOk result (λ tree. IsTypeFront text.now 32 (shape tree) []) }
     // An error is `TooDeep`, `TooMany`, `RootNotStruct`, `BadText` or `OutOfMemory`. `TooDeep` comes only if `text`
     // begins with 32 types that are open, one inside the other. `TooMany` comes only if `text` is the text of a type
     // that has more than 4,096 types in all. `RootNotStruct` comes only if `text` is the text of a type other than a
     // STRUCT. `BadText` has a place of at most the length of `text`, and comes only if `text` isn't the text of any
-    // type. The names of these types are made of one or more ASCII letters, digits and underscores, and the types
-    // keep no other fields.
+    // type. The names of these types are UTF-8, and the types keep no other fields.
     ensures fault { IfErr result (TextFault text.now) }
 {
     match tree_from(alloc, text, MOST_LEVELS) {
-        Ok((tree, [])) => Ok(tree),
-        Ok((_, rest)) => Err(TypeFault::BadText(text.len() - rest.len())),
+        Ok((tree, rest)) => {
+            if rest.is_empty() {
+                Ok(tree)
+            } else {
+                Err(TypeFault::BadText(text.len() - rest.len()))
+            }
+        }
         Err(fault) => Err(fault_from_front(text, fault)),
     }
 }

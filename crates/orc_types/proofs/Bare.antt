@@ -1,8 +1,8 @@
 -- A schema's text is that of its kinds and names.
 use Rattle.std.proofs.Common.{◌≡◌, [], Bool, true, false, refl, sym, ◌∙◌, append-nil}
-use Rattle.orc_values.specs.Shapes.{Shape, scalar, list_of, map_of, struct_of, Fields, no_field, field, width, widths, depth, depths, IsStruct}
+use Rattle.orc_values.specs.Shapes.{Shape, scalar, list_of, map_of, struct_of, Fields, no_field, field, width, widths, depth, depths, IsStruct, HasTextNames, HaveTextNames}
 use Rattle.orc_types.specs.Schemas.{IsSchema, HasText}
-use Rattle.orc_trees.specs.SchemaText.{text, fields_text, IsPlain, bare, bare_fields}
+use Rattle.orc_trees.specs.SchemaText.{text, fields_text, IsPlain, ArePlain, bare, bare_fields}
 use Rattle.orc_trees.specs.TextFronts.{IsTypeFront}
 use Rattle.orc_types.proofs.TextSchemas.{text_schema}
 
@@ -45,7 +45,19 @@ struct-bare (list_of s o) h = h
 struct-bare (map_of s t o) h = h
 struct-bare (struct_of fs o) h = h
 
-pub bare_text : (s : Shape) → IsSchema s → IsPlain (bare s) → HasText (bare s) (text s)
-bare_text s h plain =
-    let front : IsTypeFront (text s) 32 (bare s) [] = record { plain = plain; depth = rw (depth-bare s) h.levels; spelled = sym (text-bare s) ∙ sym (append-nil (text (bare s))) } in
+-- a schema's names are text
+mutual
+  plain-bare : (s : Shape) → HasTextNames s → IsPlain (bare s)
+  plain-bare (scalar k o) h = refl
+  plain-bare (list_of s o) h = (refl, plain-bare s h)
+  plain-bare (map_of s t o) h = (refl, plain-bare s h.0, plain-bare t h.1)
+  plain-bare (struct_of fs o) h = (refl, all_plain-bare fs h)
+
+  all_plain-bare : (fs : Fields) → HaveTextNames fs → ArePlain (bare_fields fs)
+  all_plain-bare no_field h = tt
+  all_plain-bare (field name s fs) h = (h.0, plain-bare s h.1, all_plain-bare fs h.2)
+
+pub bare_text : (s : Shape) → IsSchema s → HasText (bare s) (text s)
+bare_text s h =
+    let front : IsTypeFront (text s) 32 (bare s) [] = record { plain = plain-bare s h.names; depth = rw (depth-bare s) h.levels; spelled = sym (text-bare s) ∙ sym (append-nil (text (bare s))) } in
     text_schema (text s) (bare s) front (struct-bare s h.root) (rw (width-bare s) h.count)

@@ -5,4 +5,5 @@ pub mod Cover
 pub mod KeptFields
 pub mod Listed
 pub mod Bare
+pub mod OneLine
 pub mod TextSchemas

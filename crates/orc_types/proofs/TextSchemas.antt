@@ -12,7 +12,6 @@ use Rattle.orc_trees.specs.TextFaults.{TextFault}
 use Rattle.orc_trees.specs.TextFronts.{IsTypeFront}
 use Rattle.orc_types.proofs.KeptFields.{none_kept}
 use Rattle.orc_trees.proofs.OneText.{one_whole}
-use Rattle.orc_trees.proofs.TextFronts.{name_text}
 use Rattle.orc_trees.proofs.TextExclusion.{opens_tree}
 use Rattle.orc_values.proofs.Lists.{all_append}
 
@@ -25,7 +24,7 @@ mutual
 
   all_plain_names : (fs : Fields) → ArePlain fs → HaveTextNames fs
   all_plain_names no_field plain = tt
-  all_plain_names (field name s fs) plain = (name_text name plain.0, plain_names s plain.1, all_plain_names fs plain.2)
+  all_plain_names (field name s fs) plain = (plain.0, plain_names s plain.1, all_plain_names fs plain.2)
 
 mutual
   plain_kept : (s : Shape) (n : ℕ) → IsPlain s → AllKept (types s n)

@@ -50,7 +50,7 @@ same_types_equiv =
     (and_equiv (on_equiv (λ (t : TypeMsg). t.subtypes) nat_list_eq_equiv)
     (and_equiv (on_equiv (λ (t : TypeMsg). t.field_names) (lists_equiv nat_list_eq_equiv)) (on_equiv (λ (t : TypeMsg). t.kept) nat_list_eq_equiv)))))
 
--- a schema that its text tells, and the text
+-- a schema whose types keep no other fields, and its text
 pub record HasText (s : Shape) (bytes : List ℕ) : Type 0 where
   pub schema : IsSchema s
   pub plain : IsPlain s

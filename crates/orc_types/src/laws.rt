@@ -1,11 +1,13 @@
 //! Laws of schemas and their texts. Each function does nothing: its contract is what it is for.
 ghost use Rattle.std.specs.Prelude.{◌≡◌, ◌≢◌, ◌↔◌, ◌⊎◌, ℕ, List, true};
+ghost use Rattle.std.specs.Char.{is_control};
+ghost use Rattle.std.specs.Str.{NoCharPasses};
 ghost use Rattle.orc_values.specs.Shapes.{Shape};
 ghost use Rattle.orc_wire.specs.Types.{types};
 ghost use Rattle.orc_wire.specs.declared.type_msg.TypeMsg.{TypeMsg};
 ghost use Rattle.orc_types.specs.Schemas.{IsSchema, HasTypes, AllKept, same_types, HasText};
 ghost use Rattle.orc_types.specs.Faults.{TypesFault};
-ghost use Rattle.orc_trees.specs.SchemaText.{text, bare, IsPlain};
+ghost use Rattle.orc_trees.specs.SchemaText.{text, bare};
 ghost use Rattle.orc_trees.specs.TextFaults.{TextFault};
 ghost use Rattle.orc_trees.specs.declared.fault.TypeFault.{TypeFault};
 ghost use Rattle.orc_trees.specs.declared.fault.TypeFault.TheVariants.{OutOfMemory};
@@ -30,14 +32,19 @@ pub fn schema_laws()
         → ((s : Shape) × HasTypes s ts) ⊎ ((fault : TypeFault) × (fault ≢ OutOfMemory) × TypesFault ts fault) }
 {}
 
-/// Laws of schemas' texts: a text is of one schema at most; that of any schema with plain names is of
-/// its kinds and names; and of the faults that stand, none but want of memory goes with a schema.
+/// Laws of the texts of schemas: a text belongs to one schema at most, the text of every schema belongs to the schema
+/// of its kinds and names, and it has no control character. A text that has a fault other than `OutOfMemory` belongs to
+/// no schema.
 pub fn schema_text_laws()
-    // A text is of one schema at most, with plain names and nothing kept.
+    // If `bytes` are the text of two schemas whose types keep no other fields, then these are the same schema.
     ensures one_schema { (bytes : List ℕ) (s t : Shape) → HasText s bytes → HasText t bytes → s ≡ t }
-    // Where a schema has plain names, its text is that of its kinds and names alone.
-    ensures kinds_and_names { (s : Shape) → IsSchema s → IsPlain (bare s) → HasText (bare s) (text s) }
-    // Where a fault other than want of memory stands, the text is no such schema's.
+    // If `s` is a schema, then its text is the text of the schema that has the kinds and the names of `s` and whose types
+    // keep no other fields.
+    ensures kinds_and_names { (s : Shape) → IsSchema s → HasText (bare s) (text s) }
+    // The text of a type has no control character, whatever its names are, so it is one line.
+    ensures one_line { (s : Shape) → NoCharPasses is_control (text s) }
+    // If `bytes` have a fault other than `OutOfMemory`, then they aren't the text of a schema whose types keep no other
+    // fields.
     ensures none { (bytes : List ℕ) (s : Shape) (fault : TypeFault)
         → HasText s bytes
         → TextFault bytes fault

@@ -13,12 +13,17 @@ use orc_values::width_of;
 use std::alloc::Global;
 
 impl Schema {
-    /// The schema's text: `boolean`, `tinyint`, `smallint`, `int`, `bigint`, `string`, `binary`,
-    /// `date`, `array<T>`, `map<K,V>` and `struct<name:T,..>`, with no spaces. It has the kinds and the
-    /// names, and nothing of what types keep (ORC specification, "Types"). Where the names are of
-    /// ASCII letters, digits and underscores, `parse` reads it as these kinds and names.
+    /// Returns the schema's text: `boolean`, `tinyint`, `smallint`, `int`, `bigint`, `string`, `binary`, `date`,
+    /// `array<T>`, `map<K,V>` and `struct<name:T,..>`, with no spaces (ORC specification, "Types"). It has the kinds
+    /// and the names, and no other field that types keep. `parse` reads it as these kinds and names.
     ///
-    /// Refusal: `OutOfMemory`.
+    /// A name of one or more ASCII letters, digits and underscores stands as it is. Any other name stands in
+    /// backticks, in which a backtick and a backslash are doubled, and a control character is `\u00` and the two
+    /// hexadecimal digits of its number, in lower case: so the text is one line.
+    ///
+    /// # Errors
+    ///
+    /// `OutOfMemory` if there is no memory for the text.
     pub fn text(&self, alloc: Global) -> Result<String, TypeFault>
         // A returned text is the text of the schema's kinds and names.
         ensures found { IfOk result (λ text. string_bytes text ≡ spec.text self.now) }
@@ -30,19 +35,19 @@ impl Schema {
         Ok(text)
     }
 
-    /// The schema that a text tells: the kinds and the names, which are of ASCII letters, digits and
-    /// underscores. Its types keep nothing else (ORC specification, "Types").
+    /// Reads a schema's text, as `text` writes it. The types of the schema keep no other fields (ORC specification,
+    /// "Types").
     ///
-    /// Refusals: `BadText` with the place where the text goes wrong, `TooDeep` above 32 levels,
-    /// `RootNotStruct` of another type's text, `TooMany` above 4,096 types, and `OutOfMemory`. Which
-    /// of several is answered is open.
+    /// # Errors
+    ///
+    /// `BadText` with the place where the text goes wrong, or where a wrong name begins; `TooDeep` above 32 levels;
+    /// `RootNotStruct` if it is the text of another type; `TooMany` above 4,096 types; `OutOfMemory`. Which of several
+    /// is returned isn't fixed.
     pub fn parse(alloc: Global, text: &str) -> Result<Schema, TypeFault>
-        // A returned schema is within the limits, `text` is its text, each of its names is made of one or more ASCII
-        // letters, digits and underscores, and its types keep no other fields.
+        // A returned schema is within the limits, `text` is its text, and its types keep no other fields.
         ensures found { IfOk result (λ found. HasText found text.now) }
-        // If `text` is the text of a schema within the limits, each of whose names is made of one or more ASCII
-        // letters, digits and underscores, and whose types keep no other fields, then `parse` returns this schema, or
-        // fails with `OutOfMemory`.
+        // If `text` is the text of a schema within the limits whose types keep no other fields, then `parse` returns
+        // this schema, or fails with `OutOfMemory`.
         ensures only { (s : Shape)
             → HasText s text.now
             → MatchResult result (λ found. found ≡ s) (λ fault. fault ≡ OutOfMemory) }
@@ -51,11 +56,10 @@ impl Schema {
         // begins with 32 types that are open, one inside the other. `TooMany` comes only if `text` is the text of a
         // type that has more than 4,096 types in all. `RootNotStruct` comes only if `text` is the text of a type other
         // than a STRUCT. `BadText` has a place of at most the length of `text`, and comes only if `text` isn't the text
-        // of any type. The names of these types are made of one or more ASCII letters, digits and underscores, and the
-        // types keep no other fields.
+        // of any type. The names of these types are UTF-8, and the types keep no other fields.
         ensures fault { IfErr result (TextFault text.now) }
     {
-        let tree = whole_tree(alloc, text.as_bytes())?;
+        let tree = whole_tree(alloc, text)?;
         if !is_struct(&tree) {
             return Err(TypeFault::RootNotStruct);
         }

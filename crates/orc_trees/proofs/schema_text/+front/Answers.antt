@@ -1,8 +1,10 @@
-use Rattle.std.proofs.Common.{◌≡◌, [], ◌∷◌, ◌++◌, map, ap, ◌∙◌, arith, string_bytes}
+use Rattle.std.proofs.Common.{rules, List, ℕ, ◌≡◌, [], ◌∷◌, ◌++◌, map, ap, ◌∙◌, arith, string_bytes}
 use Rattle.std.proofs.lemmas.Result.{err_from_is_err_and}
 use Rattle.std.proofs.lemmas.List.{map-append}
 use Rattle.orc_values.specs.Views.{name_and_type, shape, fields}
 use Rattle.orc_values.proofs.Views.{name_and_type-is, shape-List, shape-Map, shape-Struct}
+use Rattle.orc_trees.specs.SchemaText.{comma, colon, name_text}
+use Rattle.orc_trees.proofs.NameFronts.{string_name}
 use Rattle.orc_trees.proofs.TextFronts.{map_front, key_fault, value_fault, array_front, struct_front, no_front, array_fault, sign_fault, no_sign, struct_fault, name_fault, type_fault, reached_none, reached_more, none_yet, field_fault}
 use Rattle.orc_trees.proofs.schema_text.+front.Goals as goal
 
@@ -23,27 +25,27 @@ tree_from-returns-in_default-kind_from-clause-fault t c =
 pub field_from-returns-in_err-name-clause-fault : goal.field_from-returns-in_err-name-clause-fault
 field_from-returns-in_err-name-clause-fault t c =
     let p = err_from_is_err_and c.from_residual.result c.from_residual.ensures.1 in
-    rw (p.1, p.2) (name_fault c.args.text.now c.args.first c.args.levels c.in-Some-name_from.name.now c.in_err-name.field-0.0 c.in-Some-name_from.ensures.name c.in_err-name.ensures.fault)
+    rw (p.1, p.2) (name_fault c.args.text.now c.in-Some.named.now c.args.first c.args.levels c.in_err-name.field-0.0 c.in-Some.ensures c.in_err-name.ensures.fault)
 
 pub field_from-returns-in_err-tree-clause-fault : goal.field_from-returns-in_err-tree-clause-fault
 field_from-returns-in_err-tree-clause-fault t c =
     let p = err_from_is_err_and c.from_residual-in_err-tree.result c.from_residual-in_err-tree.ensures.1 in
-    rw (p.1, p.2) (type_fault c.args.text.now c.in-Some.named.now c.in-Some-name_from.inner.now c.args.first c.args.levels c.in-Some-name_from.name.now c.in_err-tree.field-0.0 c.in-Some.ensures c.in-Some-name_from.ensures.found c.in-Some-name_from.ensures.name c.in_err-tree.ensures.fault)
+    rw (p.1, p.2) (type_fault c.args.text.now c.in-Some.named.now c.in_ok-name.inner.now c.args.first c.args.levels (string_bytes c.in_ok-name.name) c.in_err-tree.field-0.0 c.in-Some.ensures c.in_ok-name.ensures.found (string_name c.in_ok-name.name) c.in_err-tree.ensures.fault)
 
 pub fields_from-loop-rest-init : goal.fields_from-loop-rest-init
-fields_from-loop-rest-init t c = rw c.new-fields.ensures.items (reached_none c.args.text.now c.args.levels)
+fields_from-loop-rest-init t c = (search rules, rw c.new-fields.ensures.items (reached_none c.args.text.now c.args.levels))
 
 pub fields_from-returns-in_err-field-clause-fault : goal.fields_from-returns-in_err-field-clause-fault
 fields_from-returns-in_err-field-clause-fault t c =
     let p = err_from_is_err_and c.from_residual.result c.from_residual.ensures.1 in
-    rw (p.1, p.2) (field_fault c.args.text.now c.args.levels (map name_and_type c.loop-rest.fields.items) c.loop-rest.left.now c.is_empty.result c.in_err-field.field-0.0 (c.is_empty.ensures ∙ none_yet c.loop-rest.fields.items _ (c.loop-rest.fields.ok.0)) (c.in_default.ensures) c.loop-rest.invariant c.in_err-field.ensures.fault)
+    rw (p.1, p.2) (field_fault c.args.text.now c.args.levels (map name_and_type c.loop-rest.fields.items) c.loop-rest.left.now c.is_empty.result c.in_err-field.field-0.0 (c.is_empty.ensures ∙ none_yet c.loop-rest.fields.items _ (c.loop-rest.fields.ok.0)) (c.in_default.ensures) c.loop-rest.invariant.1 c.in_err-field.ensures.fault)
 
 pub fields_from-loop-rest-preserved : goal.fields_from-loop-rest-preserved
 fields_from-loop-rest-preserved t c =
     let one = c.in_ok-field.field in
     let pushed : map name_and_type c.push.new.self.items ≡ map name_and_type c.loop-rest.fields.items ++ (string_bytes one.name, shape one.tree) ∷ [] =
     ap (map name_and_type) c.in_ok-push.ensures.items ∙ map-append name_and_type c.loop-rest.fields.items (one ∷ []) ∙ ap (λ g. map name_and_type c.loop-rest.fields.items ++ g ∷ []) (name_and_type-is one) in
-    rw pushed (reached_more c.args.text.now c.args.levels (map name_and_type c.loop-rest.fields.items) c.loop-rest.left.now c.is_empty.result (string_bytes one.name) (shape one.tree) c.in_ok-field.rest.now (c.is_empty.ensures ∙ none_yet c.loop-rest.fields.items _ (c.loop-rest.fields.ok.0)) c.in_ok-field.ensures.found c.loop-rest.invariant)
+    (search rules, rw pushed (reached_more c.args.text.now c.args.levels (map name_and_type c.loop-rest.fields.items) c.loop-rest.left.now c.is_empty.result (string_bytes one.name) (shape one.tree) c.in_ok-field.rest.now (c.is_empty.ensures ∙ none_yet c.loop-rest.fields.items _ (c.loop-rest.fields.ok.0)) c.in_ok-field.ensures.found c.loop-rest.invariant.1))
 
 pub tree_from-returns-in_err-element-clause-fault : goal.tree_from-returns-in_err-element-clause-fault
 tree_from-returns-in_err-element-clause-fault t c =
@@ -80,3 +82,11 @@ tree_before-returns-in_err-tree-clause-fault t c =
 pub tree_before-returns-in-None-clause-fault : goal.tree_before-returns-in-None-clause-fault
 tree_before-returns-in-None-clause-fault t c =
     no_sign c.args.text.now c.args.sign.now c.args.levels (shape c.in_ok-tree.tree) c.in_ok-tree.left.now c.in_ok-tree.ensures.found c.in-None.ensures
+
+pub field_from-returns-clause-found : goal.field_from-returns-clause-found
+field_from-returns-clause-found t c = record {
+  named = string_name c.in_ok-name.name;
+  plain = c.in_ok-tree.ensures.found.plain;
+  depth = c.in_ok-tree.ensures.found.depth;
+  spelled = c.in-Some.ensures ∙ ap (λ (r : List ℕ). comma c.args.first ++ r) (c.in_ok-name.ensures.found ∙ ap (λ (r : List ℕ). name_text (string_bytes c.in_ok-name.name) ++ (colon ++ r)) c.in_ok-tree.ensures.found.spelled);
+}
