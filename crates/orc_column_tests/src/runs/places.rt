@@ -138,9 +138,19 @@ fn has_none(places: Result<RunTable, RunFault>, fault: RunFault) -> Result<bool,
 /// Streams whose last run ends too soon have no places.
 fn check_short(rt: &impl Abort, alloc: Global) -> Result<(), RunFault> {
     let short = run_table::<V1>(alloc, &[0x00, 0x00, 0x02, 0xff], Signed);
-    demand(rt, has_none(short, RunFault::Short(3))?, "no places behind", 3);
+    demand(
+        rt,
+        has_none(short, RunFault::Short(3))?,
+        "no places behind",
+        3,
+    );
     let short = byte_table(alloc, &[0x61, 0x00, 0x00]);
-    demand(rt, has_none(short, RunFault::Short(2))?, "no places behind", 2);
+    demand(
+        rt,
+        has_none(short, RunFault::Short(2))?,
+        "no places behind",
+        2,
+    );
     Ok(())
 }
 

@@ -18,10 +18,17 @@ fn ints_are_left<C: RunCodec>(
 
 /// Runs that stand for 1 2 3 4 5 6, and for 0 0 0 2 2 2.
 const EVEN: &'static [u8] = &[0x03, 0x01, 0x02];
+
 const TWICE: &'static [u8] = &[0x00, 0x00, 0x02, 0x00, 0x00, 0x04];
 
 /// Streams of signed integers in version 1, an offset, how many values are passed, what is answered, and what is left.
-static SOUGHT: [(&'static [u8], usize, usize, Result<usize, RunFault>, &'static [i64]); 6] = [
+static SOUGHT: [(
+    &'static [u8],
+    usize,
+    usize,
+    Result<usize, RunFault>,
+    &'static [i64],
+); 6] = [
     (EVEN, 0, 2, Ok(3), &[3, 4, 5, 6]),
     (EVEN, 0, 6, Ok(3), &[]),
     (EVEN, 0, 7, Err(BadPosition(0)), &[]),
