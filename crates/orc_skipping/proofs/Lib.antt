@@ -1,0 +1,9 @@
+pub mod Places
+pub mod Sound
+pub mod Rows
+pub mod Bolder
+pub mod Alike
+pub mod OwnCells
+pub mod Why
+pub mod Untold
+pub mod OneColumn

@@ -1,0 +1,5 @@
+pub mod Predicates
+pub mod Rules
+pub mod Right
+pub mod Tests
+pub mod Groups
