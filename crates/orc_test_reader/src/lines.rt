@@ -164,7 +164,13 @@ pub(crate) fn lines_from(
     let mut file = calls::open(alloc, bytes)?;
     let mut lines = Vec::new(alloc);
     put_group(alloc, &mut file, stripe, group, &mut lines)?;
-    put_stripes(alloc, &mut file, stripe + 1, Call::View, &mut lines)?;
+    put_stripes(
+        alloc,
+        &mut file,
+        stripe.saturating_add(1),
+        Call::View,
+        &mut lines,
+    )?;
     Ok(lines)
 }
 
