@@ -1,13 +1,14 @@
 """Carries records over to a text that says the same in other words.
 
 A line is carried over if the edit, the function that it changes with its contract, and the heads of what this calls are word for word
-what they were, each name of scripts/kept/names-turned-back read as the old one. Definitions may differ. The line gets the new sums, and
-keeps its `tried=`, which says on which text the edit was really tried. Where crates were cut, an older commit says which heads these
-were (older.py)."""
+what they were, each name of scripts/kept/names-turned-back read as the old one. Definitions may differ, and an edit of the old form may
+have become one of the new form, if the check left open what it says to break. The line gets the new sums, and keeps its `tried=`, which
+says on which text the edit was really tried. Where crates were cut, an older commit says which heads these were (older.py)."""
+from .clauses import not_open
 from .edits import edits_of
 from .older import Older
 from .records import Line, Record, record_of
-from .spelling import kept_names
+from .spelling import kept_names, sum_of
 from .sums import Sums
 
 SAME = {"edit": "the edit", "function": "its function", "heads": "a head", "heads_below": "a head of a crate below"}
@@ -50,6 +51,13 @@ def differing(line, sums):
     return [words for it, words in SAME.items() if line.sums[it] != sums[it]]
 
 
+def is_named_since(edit, line, present):
+    """Returns whether an edit was tried in the old form, and has only said since then what it breaks, which the trial left open."""
+    if not edit.breaks or line.sums["edit"] != sum_of(present.names.turned_back(edit.text_of_old_form())):
+        return False
+    return not not_open(edit, line.goals, present.sources.changed(edit)[0], present.sources)
+
+
 def carried_line(edit, old, present, turned, names, older=None):
     """Returns the line that is carried over for an edit, or why none is, or neither if its line is of the present text."""
     line = old.lines.get(edit.file) or old.lines.get(names.turned_back(edit.file))
@@ -60,6 +68,8 @@ def carried_line(edit, old, present, turned, names, older=None):
         return None, None
     # (a line may be of a text after the names were changed, or before)
     differs = min((differing(line, it) for it in (sums, turned.of(edit))), key=len)
+    if SAME["edit"] in differs and is_named_since(edit, line, present):
+        differs.remove(SAME["edit"])
     if differs and older:
         differs = older.differing(edit, line)
     if differs:

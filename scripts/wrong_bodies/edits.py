@@ -101,6 +101,10 @@ class Edit:
             return "its new text adds a `return`, and no 'answer:' line says what is wrong with the answer"
         return None
 
+    def text_of_old_form(self):
+        """Returns the edit's text without the lines that only an edit of the new form has."""
+        return "".join(it for it in self.text.splitlines(keepends=True) if it.partition(":")[0] not in ("breaks", "for", "answer"))
+
     def adds_return(self):
         count = [sum(len(re.findall(r"\breturn\b", it[at])) for it in self.pairs) for at in (1, 2)]
         return count[1] > count[0]
