@@ -2,7 +2,8 @@
 import os
 
 from .forms import Forms, named_faults, reason_faults
-from .picking import MOST_STALE, too_many
+from .picking import MOST_STALE, command, too_many
+from .staleness import MOST_BELOW
 
 
 def print_stale(states):
@@ -33,7 +34,12 @@ def compare(states, sources, crates):
     old = [it for it in states if not it.edit.is_new_form]
     tried = [it for it in states if it.is_valid and it.line.is_tried_here]
     print(f"{len(tried)} of {len(states)} tried on this text")
-    print(f"{len(old)} of the old form, {sum(it.is_excused for it in old)} of them stale by a floor below")
+    below = [it for it in states if it.is_stale_below]
+    print(f"{len(old)} of the old form")
+    print(f"{len(below)} stale by a floor below")
+    if len(below) > MOST_BELOW:
+        faults.append(f"more than {MOST_BELOW} are stale by a floor below: {command(below)}")
+        print(faults[-1])
     count(states, crates)
     stale = [it for it in states if it.is_stale]
     if len(stale) > MOST_STALE:

@@ -15,11 +15,12 @@ def seconds_of(state):
 
 
 def picked(states, key, minutes):
-    """Returns as many edits as fit so many processor minutes, in an order that a key gives, with the controls of their crates."""
+    """Returns as many edits as fit so many processor minutes, those that are stale by a floor below first, in an order that a key gives, with
+    the controls of their crates."""
     left = minutes * 60
     found, crates = [], set()
     wrong = [it for it in states if not it.edit.is_control and not it.is_stale]
-    for it in sorted(wrong, key=lambda it: hashlib.sha256(f"{key} {it.edit}".encode()).hexdigest()):
+    for it in sorted(wrong, key=lambda it: (not it.is_stale_below, hashlib.sha256(f"{key} {it.edit}".encode()).hexdigest())):
         with_it = [other for other in states if other.edit.is_control and other.edit.crate == it.edit.crate]
         with_it = [it, *(with_it if it.edit.crate not in crates else [])]
         cost = sum(seconds_of(one) for one in with_it)

@@ -4,6 +4,8 @@ from .records import record_of
 from .sums import PARTS
 
 OWN = {"edit": "the edit", "function": "its function", "heads": "a function or type that it names", "definitions": "a definition"}
+# how many edits may be stale by a floor below
+MOST_BELOW = 300
 BELOW = {"heads_below": "a function or type of a crate below", "definitions_below": "a definition of a crate below"}
 
 
@@ -23,18 +25,13 @@ class State:
 
     @property
     def is_stale_below(self):
-        """Whether nothing but what stands below the edit's crate has changed."""
+        """Whether nothing but what stands below the edit's crate has changed: runs of the gate try such edits first, and don't fail."""
         return bool(self.line) and self.is_of_kit and bool(self.differs) and all(it in BELOW for it in self.differs)
-
-    @property
-    def is_excused(self):
-        """Whether it is stale by a floor below and of the old form, which is counted and doesn't fail."""
-        return self.is_stale_below and not self.edit.is_new_form
 
     @property
     def is_stale(self):
         """Whether it has to be tried before the crate can land."""
-        return not self.is_valid and not self.is_excused
+        return not self.is_valid and not self.is_stale_below
 
     def why(self):
         if not self.line:
