@@ -1,5 +1,6 @@
-//! Tests by public calls of `orc_stripe`, of what makes a stripe and reads it. They stand apart, so that it isn't proved
-//! again with them; those that need no stripe stand in `orc_column_tests`.
+//! Tests by public calls of `orc_stripe`, of what makes a stripe and reads it, and of `orc_skipping`, which rows of it may
+//! be skipped. They stand apart, so that neither is proved again with them; those of other crates that need no stripe stand
+//! in `orc_column_tests`, which takes longer.
 //! What no file shows that the program reads or writes stands here; the rest stands in vectors/ and scripts/cases/.
 #![tactic(auto)]
 
@@ -21,5 +22,7 @@ mod assertions;
 mod indexes;
 #[cfg(test)]
 mod reading;
+#[cfg(test)]
+mod skipping;
 #[cfg(test)]
 mod writing;
