@@ -13,3 +13,6 @@ mod OneRunLemmas
 mod SoughtLemmas
 mod PlaceLemmas
 mod WrittenIndexes
+mod ReadyStats
+mod GroupStats
+mod StoredLemmas

@@ -5,3 +5,4 @@ pub mod WrittenIndexes
 pub mod OneRunPositions
 pub mod RunsRead
 pub mod Places
+pub mod StoredStats
