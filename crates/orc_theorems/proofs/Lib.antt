@@ -16,3 +16,5 @@ mod WrittenIndexes
 mod ReadyStats
 mod GroupStats
 mod StoredLemmas
+mod KeptLemmas
+mod OtherGroups

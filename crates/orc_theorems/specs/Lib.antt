@@ -6,3 +6,4 @@ pub mod OneRunPositions
 pub mod RunsRead
 pub mod Places
 pub mod StoredStats
+pub mod KeptGroups

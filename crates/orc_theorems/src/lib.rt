@@ -14,6 +14,7 @@ mod merging_calls;
 mod printed_from_a_group;
 mod seeking;
 mod skipping;
+mod skipping_calls;
 mod written_files;
 mod written_files_calls;
 mod written_findings;
@@ -31,6 +32,7 @@ pub use merging_calls::{in_two_steps, join_in_groupings, join_in_orders, join_in
 pub use printed_from_a_group::place_laws;
 pub use seeking::{ColumnSought, Sought};
 pub use skipping::skipping_in_files;
+pub use skipping_calls::matching_groups;
 pub use written_files::written_files_read_back;
 pub use written_files_calls::{ReadBack, write_and_read, write_to};
 pub use written_findings::written_finding_laws;

@@ -6,21 +6,20 @@ ghost use Rattle.orc_values.specs.Shapes.{width, shape_at};
 ghost use Rattle.orc_column_reader.specs.Stripe.{columns_of};
 ghost use Rattle.orc_row_index.specs.Walking.{ArePlaced};
 ghost use Rattle.orc_file_reader.specs.FileRows.{FileIs};
-ghost use Rattle.orc_tail.specs.Tails.{IsTail};
 ghost use Rattle.orc_tail.specs.declared.tail.Tail.{Tail};
 ghost use Rattle.orc_theorems.specs.OneRunPositions.{ColumnReadsOneRun, ReadsOneRun};
 ghost use Rattle.orc_theorems.specs.RunsRead.{ReadOneEach};
 ghost use Rattle.orc_theorems.specs.WrittenIndexes.{WasWritten};
 
 use crate::fault::CallFault;
-use crate::memory::join_two;
+use crate::memory::{join_two, opened};
 use crate::seeking::{ColumnSought, seek_places};
 use crate::written_files_calls::write_rows;
 use crate::written_positions::writers_positions;
 use orc_column_reader::streams_of;
 use orc_directory::{Spot, StripeFault};
 use orc_file_reader::OrcFile;
-use orc_io::{SliceSource, Source};
+use orc_io::Source;
 use orc_row_batch::Options;
 use orc_row_index::{PlacedStreams, placed_streams};
 use orc_stripe_reader::StripeView;
@@ -71,17 +70,6 @@ fn seek_group(
     match seek_places(&placed, entries[group].positions.as_slice()) {
         Ok(sought) => Ok(sought),
         Err(_) => Err(StripeFault::BadPosition(Spot::Column(column))),
-    }
-}
-
-/// Opens a file in memory.
-fn opened<'a>(alloc: Global, bytes: &'a [u8]) -> Result<OrcFile<SliceSource<'a>>, FileFault>
-    ensures found { IfOk result (λ file. IsTail bytes.now file.tail) }
-    ensures told { IfOk result (λ file. ⟦<SliceSource<'a> as Source>⟧.told file.source ≡ Some bytes.now) }
-{
-    match OrcFile::open(alloc, SliceSource::new(bytes)) {
-        Ok(file) => Ok(file),
-        Err((fault, _)) => Err(fault),
     }
 }
 

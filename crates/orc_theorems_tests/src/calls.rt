@@ -2,10 +2,12 @@
 use orc_cli_output::CliFault;
 use orc_file::{FileFault, Sink, Source};
 use orc_merge::MergeFault;
+use orc_skipping::{GroupPlace, Test};
 use orc_stripe::Options;
 use orc_theorems::{
     CallFault, ColumnSought, Sought, in_two_steps, join_and_seek, join_checked, join_in_groupings,
-    join_in_orders, join_in_steps, print_from, print_other_from, write_and_read, write_and_seek,
+    join_in_orders, join_in_steps, matching_groups, print_from, print_other_from, write_and_read,
+    write_and_seek,
 };
 use orc_types::Schema;
 use orc_values::Row;
@@ -141,6 +143,19 @@ pub(crate) fn sought_in_join(
 ) -> Result<usize, CallFault> {
     match join_and_seek(alloc, first, second, 1, 1, group) {
         Ok(found) => Ok(integers_left(&found)),
+        Err(fault) => Err(fault),
+    }
+}
+
+/// The groups of a file's rows that are kept by the statistics of a column; nothing, where something is found.
+pub(crate) fn kept(
+    alloc: Global,
+    bytes: &[u8],
+    column: usize,
+    test: &Test,
+) -> Result<Option<Vec<GroupPlace>>, FileFault> {
+    match matching_groups(alloc, bytes, column, test) {
+        Ok(found) => Ok(found),
         Err(fault) => Err(fault),
     }
 }

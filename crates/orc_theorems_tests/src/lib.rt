@@ -8,6 +8,8 @@ mod calls;
 #[cfg(test)]
 mod joined;
 #[cfg(test)]
+mod kept;
+#[cfg(test)]
 mod steps;
 #[cfg(test)]
 mod written;
