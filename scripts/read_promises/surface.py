@@ -8,8 +8,12 @@ PARTS = (
         "each merge succeeds, files that are merged in any grouping become the same bytes, and these have the rows of all inputs in order. "
         "For every order of the inputs the file statistics are the same. A file that was written reads back as its rows. `check` finds "
         "nothing in it, nor in a file that is merged of files in which it finds nothing. In such files reading may begin at each group of "
-        "rows.",
-        (("orc_theorems", "merge_theorem written_files_read_back findings_of_merges reading_from_the_middle writers_positions"),),
+        "rows, and who skips rows by their statistics loses none that matches.",
+        (
+            ("orc_theorems", "merge_theorem written_files_read_back findings_of_merges reading_from_the_middle writers_positions"),
+            ("orc_theorems", "skipping_in_files"),
+            ("orc_skipping", "skipping_laws"),
+        ),
     ),
     (
         "Safe and total",
@@ -61,7 +65,7 @@ PARTS = (
     (
         "Indexed reading, the checker and the cursor",
         "Reading may begin at a position or at a group of rows, and gives what reading from the start gives from there on. The checker "
-        "finds everything that is wrong in a file, and nothing else.",
+        "finds everything that is wrong in the statistics and row indexes that it compares, and nothing else.",
         (
             ("orc_rle", "RunCodec::seek ByteRuns::seek BitRuns::seek"),
             ("orc_stripe_reader", "StripeView::index StripeView::positions_right StripeView::cursor StripeView::cursor_at RowCursor::next"),
