@@ -19,7 +19,7 @@ use orc_values::MOST_STRIPE_ROWS;
 use std::alloc::Global;
 
 /// The version of the program.
-const VERSION: &str = "0.3.0";
+const VERSION: &str = "0.4.0";
 
 /// The words that `--rle` takes.
 pub static VERSIONS: [&str; 2] = ["1", "2"];
