@@ -12,8 +12,9 @@ ghost use Rattle.orc_check.specs.RightIndexes.{HasIndexes, StartsAtGroups};
 use orc_stripe_reader::group_laws;
 
 /// Laws of findings. A file has at most one list of findings. A finding is in it if and only if it is true of the file.
-/// The list is empty if and only if the statistics of each stripe and of the whole file are those of the rows and, if
-/// the stride is above 0, each column of each stripe has a right row index. Element counts may be missing.
+/// The list is empty if and only if the statistics of each stripe and, with two exceptions, those of the whole file are
+/// those of the rows, and, if the stride is above 0, each column of each stripe has a right row index. Element counts
+/// may be missing.
 pub fn finding_laws()
     // For bytes, a tail and rows there is at most one list of findings.
     ensures one { (bytes : List ℕ) (tail : Tail) (rows : List Cell) (a b : List Finding)
@@ -28,7 +29,8 @@ pub fn finding_laws()
     // those of the stripes' rows, its file statistics are those of all rows, and, if its stride is above 0,
     // each column of each stripe has a row index of one entry for each group, with the group's statistic and
     // with positions from which a reader continues at the group. Element counts may be missing in all these
-    // statistics, and a file statistic has no sum if the sum of some stripe doesn't fit 64 bits.
+    // statistics. A file statistic has no sum if the sum of some stripe doesn't fit 64 bits, and no element
+    // count if some stripe with a value lacks it.
     ensures none { (bytes : List ℕ) (tail : Tail) (rows : List Cell) → FileIs bytes tail rows
         → Findings bytes tail rows [] ↔ (Honest tail rows × TellsWhole tail rows × HasIndexes bytes tail rows) }
 {}
