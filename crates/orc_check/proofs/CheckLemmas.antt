@@ -300,6 +300,6 @@ pub all_named : {A : Type 0} (many : ℕ) (r : Result A FileFault) → many ≤ 
 all_named many (Ok x) few h = tt
 all_named many (Err e) few h = check_named many e few h
 
-pub tail_named : {P : Type 0} (fault : FileFault) → (fault ≡ SourceFailed) ⊎ (IsOfTail fault × P) → (fault ≡ SourceFailed) ⊎ IsOfCheck fault
+pub tail_named : (fault : FileFault) → (fault ≡ SourceFailed) ⊎ IsOfTail fault → (fault ≡ SourceFailed) ⊎ IsOfCheck fault
 tail_named fault (inl source) = inl source
-tail_named fault (inr h) = inr (inl h.0)
+tail_named fault (inr of_tail) = inr (inl of_tail)

@@ -49,10 +49,7 @@ fn check_tail<S: Source>(
         (λ bytes. FirstRefused tail.now.schema bytes 0 tail.now.stripes fault)) }
     ensures named { IfErr result (λ fault. (fault ≡ OutOfMemory)
         ⊎ ((fault ≡ SourceFailed) ⊎ IsOfStripes (length tail.now.stripes) fault)) }
-    ensures source { LeavesSource S.told S.size S.failures SourceFailed (λ fault. fault ≡ OutOfMemory)
-        source.old source.new result }
-    ensures unfailed { IfErr result (λ fault. (fault ≡ SourceFailed)
-        ⊎ (S.failures source.new ≡ S.failures source.old)) }
+    ensures source { LeavesSource S.told S.size S.failures SourceFailed source.old source.new result }
 {
     let mut found = Vec::new(alloc);
     let mut own = Vec::new(alloc);
@@ -98,12 +95,9 @@ pub fn check<S: Source>(alloc: Global, source: &mut S) -> Result<Vec<Finding>, F
     // An error is `SourceFailed`, `OutOfMemory`, the fault of a test of a tail, or `Stripe` with a number below
     // 65,536 and a reason, never `OutOfMemory`, why some bytes are not a stripe with any rows.
     ensures named { IfErr result (λ fault. (fault ≡ SourceFailed) ⊎ IsOfCheck fault) }
-    // The source has its former length, and the same is known of its bytes. Its count of failures rises with
+    // The source has its former length, and the same is known of its bytes. Its count of failures rises by one with
     // `SourceFailed`, and stays the same otherwise.
-    ensures source { LeavesSource S.told S.size S.failures SourceFailed (λ fault. fault ≡ OutOfMemory)
-        source.old source.new result }
-    ensures unfailed { IfErr result (λ fault. (fault ≡ SourceFailed)
-        ⊎ (S.failures source.new ≡ S.failures source.old)) }
+    ensures source { LeavesSource S.told S.size S.failures SourceFailed source.old source.new result }
 {
     let tail = read_tail(alloc, source)?;
     check_tail(alloc, source, &tail)

@@ -47,10 +47,7 @@ pub(crate) fn check_stripe<S: Source>(
         (λ all. StripeRefused tail.now.schema all number (stripe_at tail.now.stripes number) fault)) }
     ensures named { IfErr result (λ fault. (fault ≡ OutOfMemory)
         ⊎ ((fault ≡ SourceFailed) ⊎ IsOfStripe number fault)) }
-    ensures source { LeavesSource S.told S.size S.failures SourceFailed (λ fault. fault ≡ OutOfMemory)
-        source.old source.new result }
-    ensures unfailed { IfErr result (λ fault. (fault ≡ SourceFailed)
-        ⊎ (S.failures source.new ≡ S.failures source.old)) }
+    ensures source { LeavesSource S.told S.size S.failures SourceFailed source.old source.new result }
 {
     load_stripe(source, tail, number, bytes)?;
     let view = view_stripe(alloc, tail, number, bytes)?;

@@ -78,12 +78,9 @@ pub fn check_to<S: Source, W: Write>(
     ensures part { IfErr result (λ e. e.0 ≡ write_failed → IfSome (S.told source) (λ bytes. IsFoundOf bytes
         (λ found. AppendsPart (W.contents out.old) (W.contents out.new) (finding_lines found)))) }
     // The source, which a success and an error return, has its former length, and the same is known of its
-    // bytes. Its count of failures rises with `SourceFailed`, and stays the same after a success and after
-    // `OutOfMemory`.
-    ensures source { HandsBackSource S.told S.size S.failures (File SourceFailed) IsWantOfMemory (λ done. done.1)
-        source result }
-    // If the call fails with any error but `SourceFailed`, then the source's count of failures is unchanged.
-    ensures unfailed { IfErr result (λ e. (e.0 ≡ File SourceFailed) ⊎ (S.failures e.1 ≡ S.failures source)) }
+    // bytes. Its count of failures rises by one with `SourceFailed`, and stays the same after a success and after
+    // any other error.
+    ensures source { HandsBackSource S.told S.size S.failures (File SourceFailed) (λ done. done.1) source result }
     // If the error is `OutOfMemory`, then it is that of `File`.
     ensures layer { IfErr result (λ e. IsWantOfMemory e.0 → IsWantOfCheck e.0) }
 {

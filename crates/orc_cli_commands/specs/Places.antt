@@ -1,5 +1,5 @@
 -- The files in memory at a path, and what it means that a file at a path is found or made.
-use Rattle.std.specs.Prelude.{◌≡◌, ◌<◌, ◌⊎◌, ℕ, List, [], Option, Some, None, IsSome, map, option_map, find, slice_index, if◌then◌else◌}
+use Rattle.std.specs.Prelude.{◌≡◌, ◌+◌, ◌<◌, ◌⊎◌, ℕ, List, [], Option, Some, None, IsSome, map, option_map, find, slice_index, if◌then◌else◌}
 use Rattle.std.specs.Borrow.{Bor}
 use Rattle.std.specs.Str.{bytes_eq}
 use Rattle.std.specs.declared.vec.Vec.{Vec}
@@ -13,10 +13,10 @@ abbrev pub made_at : {Z : Type 0} → Option (Bor (List ℕ) × Vec ℕ Z) → L
 made_at None path = None
 made_at (Some file) path = if bytes_eq file.0.now path then Some file.1.items else None
 
--- Devices of this kind can fail: the counts of failures of two of them, or of one at two moments, may differ. A
--- device that never fails, such as a source in memory, has the same count at any moment.
+-- Devices of this kind can fail: the count of failures of one of them, or of one at a later moment, may be one more
+-- than that of another. A device that never fails, such as a source in memory, has the same count at any moment.
 abbrev pub CanFail : {D : Type 0} → (D → ℕ) → Type 0
-CanFail {D} failures = (before : D) × (after : D) × (failures before < failures after)
+CanFail {D} failures = (before : D) × (after : D) × (failures after ≡ failures before + 1)
 
 -- devices of this kind can fail, as the one with this number in a list
 abbrev pub CanFailAt : {D : Type 0} → (D → ℕ) → ℕ → Type 0

@@ -58,8 +58,7 @@ fn print_from<S: Source, W: Write>(
 
     ensures refused { IfErr result (λ fault. IfSome (S.told file.old.source) (λ all.
         EndsFrom all file.old.tail start.stripe start.group (W.contents out.old) (W.contents out.new) fault)) }
-    ensures source { LeavesSource S.told S.size S.failures (File SourceFailed) IsWantOfMemory
-        file.old.source file.new.source result }
+    ensures source { LeavesSource S.told S.size S.failures (File SourceFailed) file.old.source file.new.source result }
     ensures layer { IfErr result RefusesRows }
 {
     let number = start.stripe as usize;
@@ -95,8 +94,7 @@ fn print_lines<S: Source, W: Write>(
 
     ensures refused { IfErr result (λ fault. IfSome (S.told file.old.source) (λ all.
         PrintingEnds all file.old.tail start (W.contents out.old) (W.contents out.new) fault)) }
-    ensures source { LeavesSource S.told S.size S.failures (File SourceFailed) IsWantOfMemory
-        file.old.source file.new.source result }
+    ensures source { LeavesSource S.told S.size S.failures (File SourceFailed) file.old.source file.new.source result }
     ensures layer { IfErr result RefusesRows }
 {
     match start {
@@ -119,8 +117,7 @@ fn print_opened<S: Source, W: Write>(
 
     ensures refused { IfErr result (λ fault. IfSome (S.told file.old.source) (λ all.
         PrintingStops all file.old.tail start (W.contents out.old) (W.contents out.new) fault)) }
-    ensures source { LeavesSource S.told S.size S.failures (File SourceFailed) IsWantOfMemory
-        file.old.source file.new.source result }
+    ensures source { LeavesSource S.told S.size S.failures (File SourceFailed) file.old.source file.new.source result }
     ensures layer { IfErr result RefusesRows }
 {
     let printer = RowPrinter::new(alloc, file.schema())?;
@@ -140,8 +137,7 @@ fn print_file<S: Source, W: Write>(
 
     ensures refused { IfErr result (λ e. IfSome (S.told source)
         (λ bytes. RefusesFile bytes start (W.contents out.old) (W.contents out.new) e.0)) }
-    ensures source { HandsBackSource S.told S.size S.failures (File SourceFailed) IsWantOfMemory (λ back. back)
-        source result }
+    ensures source { HandsBackSource S.told S.size S.failures (File SourceFailed) (λ back. back) source result }
     ensures layer { IfErr result (λ e. RefusesRows e.0) }
 {
     match OrcFile::open(alloc, source) {
@@ -220,10 +216,9 @@ pub fn rows_to<S: Source, W: Write>(
         × (S.failures e.1 ≡ S.failures source)
         × Keeps (W.contents out.old) (W.contents out.new)) }
     // The source, which a success and an error return, has its former length, and the same is known of its
-    // bytes. Its count of failures rises with `SourceFailed`, and stays the same after a success and after
-    // `OutOfMemory`.
-    ensures source { HandsBackSource S.told S.size S.failures (File SourceFailed) IsWantOfMemory (λ back. back)
-        source result }
+    // bytes. Its count of failures rises by one with `SourceFailed`, and stays the same after a success and after
+    // any other error.
+    ensures source { HandsBackSource S.told S.size S.failures (File SourceFailed) (λ back. back) source result }
     // If the error is `OutOfMemory`, then it is that of `Json` or that of `File`.
     ensures layer { IfErr result (λ e. IsWantOfMemory e.0 → IsWantOfRows e.0) }
 {

@@ -5,7 +5,6 @@ ghost use Rattle.orc_io.specs.Leaves.{LeavesSource};
 ghost use Rattle.orc_tail.specs.Caps.{no_cap};
 ghost use Rattle.orc_tail.specs.Stripes.{stripe_at, stripe_bytes};
 ghost use Rattle.orc_tail.specs.declared.fault.FileFault.TheVariants.{SourceFailed};
-ghost use Rattle.orc_cli_output.specs.Output.{IsWantOfMemory};
 ghost use Rattle.orc_cli_rows.specs.Rows.{AreLinesOfStripes, EndsIn, RefusesRows};
 ghost use Rattle.orc_cli_rows.specs.OneStripe.{AreLinesAt, EndsAtStripe};
 ghost use Rattle.orc_cli_rows.specs.Plans.{IsPlanOf};
@@ -40,8 +39,7 @@ pub(crate) fn print_stripe<S: Source, W: Write>(
 
     ensures refused { IfErr result (λ fault. IfSome (S.told file.old.source) (λ all.
         EndsAtStripe all file.old.tail number from (W.contents out.old) (W.contents out.new) fault)) }
-    ensures source { LeavesSource S.told S.size S.failures (File SourceFailed) IsWantOfMemory
-        file.old.source file.new.source result }
+    ensures source { LeavesSource S.told S.size S.failures (File SourceFailed) file.old.source file.new.source result }
     ensures layer { IfErr result RefusesRows }
 {
     file.load(number, bytes)?;
@@ -67,8 +65,7 @@ pub(crate) fn print_rows<S: Source, W: Write>(
 
     ensures refused { IfErr result (λ fault. IfSome (S.told file.old.source) (λ all.
         EndsIn all file.old.tail first (W.contents out.old) (W.contents out.new) fault)) }
-    ensures source { LeavesSource S.told S.size S.failures (File SourceFailed) IsWantOfMemory
-        file.old.source file.new.source result }
+    ensures source { LeavesSource S.told S.size S.failures (File SourceFailed) file.old.source file.new.source result }
     ensures layer { IfErr result RefusesRows }
 {
     for number in first..file.tail().stripes.as_slice().len() {

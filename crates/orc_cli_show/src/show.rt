@@ -325,10 +325,9 @@ pub fn show_to<S: Source, W: Write>(
         (λ bytes. (tail : Tail) × IsTail bytes tail
         × AppendsPart (W.contents out.old) (W.contents out.new) (spec.show_lines tail))) }
     // The source, which a success and an error return, has its former length, and the same is known of its
-    // bytes. Its count of failures rises with `SourceFailed`, and stays the same after a success and after
-    // `OutOfMemory`.
-    ensures source { HandsBackSource S.told S.size S.failures (File SourceFailed) IsWantOfMemory (λ back. back)
-        source result }
+    // bytes. Its count of failures rises by one with `SourceFailed`, and stays the same after a success and after
+    // any other error.
+    ensures source { HandsBackSource S.told S.size S.failures (File SourceFailed) (λ back. back) source result }
     // If the error is `OutOfMemory`, then it is that of `Types` or that of `File`.
     ensures layer { IfErr result (λ e. IsWantOfMemory e.0 → spec.IsWantOfShow e.0) }
 {

@@ -107,9 +107,9 @@ pub fn write_lines<L: LineReader, W: Sink>(
     // If the call fails with any error but `SourceFailed`, then the input's count of failures is unchanged.
     ensures unfailed { IfErr result (λ e. (e.0 ≡ File file.SourceFailed)
         ⊎ (L.failures lines.new ≡ L.failures lines.old)) }
-    // The output's count of failures rises with `WriteFailed`, and stays the same after a success and after
-    // `OutOfMemory`.
-    ensures out { HandsBackSink W.failures write_failed IsWantOfMemory (λ done. done.1) out result }
+    // The output's count of failures rises by one with `WriteFailed`, and stays the same after a success and after
+    // any other error.
+    ensures out { HandsBackSink W.failures write_failed (λ done. done.1) out result }
     // If the error is `OutOfMemory`, then it is that of `Json`, that of `File`, or that of `Types`, and after
     // that of `Types` the output's bytes are unchanged if they are known.
     ensures layer { IfErr result (λ e. IsWantOfMemory e.0 → IsWantOfWrite (W.told out) (W.told e.1) e.0) }

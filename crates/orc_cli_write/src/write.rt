@@ -119,9 +119,9 @@ pub fn write_from<W: Sink>(
     // writer after any error of `Json`, and after any other error a prefix of a file of the first n of these rows,
     // for some n.
     ensures refused { IfErr result (λ e. RefusesWrite options schema.now input.now (W.told out) (W.told e.1) e.0) }
-    // The output's count of failures rises with `WriteFailed`, and stays the same after a success and after
-    // `OutOfMemory`.
-    ensures out { HandsBackSink W.failures write_failed IsWantOfMemory (λ done. done.1) out result }
+    // The output's count of failures rises by one with `WriteFailed`, and stays the same after a success and after
+    // any other error.
+    ensures out { HandsBackSink W.failures write_failed (λ done. done.1) out result }
     // If the error is `OutOfMemory`, then it is that of `Json`, that of `File`, or that of `Types`, and after
     // that of `Types` the output's bytes are unchanged if they are known.
     ensures layer { IfErr result (λ e. IsWantOfMemory e.0 → IsWantOfWrite (W.told out) (W.told e.1) e.0) }

@@ -1,5 +1,5 @@
 -- What loading a stripe promises, and the view of its bytes, with a file or with a tail that was kept (this project's).
-use Rattle.std.specs.Prelude.{◌≡◌, ◌≢◌, ◌<◌, ◌⊎◌, ℕ, List, Option, length, Result, IfOk, IfErr, IfSome, OnOk, IsErrOf, MatchResult}
+use Rattle.std.specs.Prelude.{◌≡◌, ◌≢◌, ◌<◌, ◌+◌, ◌⊎◌, ℕ, List, Option, length, Result, IfOk, IfErr, IfSome, OnOk, IsErrOf, MatchResult}
 use Rattle.orc_wire.specs.declared.stripe_info.StripeInfo.{StripeInfo}
 use Rattle.orc_wire.specs.declared.stripe_footer.StripeFooter.{StripeFooter}
 use Rattle.orc_column_reader.specs.Stripe.{HasFooter}
@@ -24,10 +24,11 @@ pub record LoadsStripe {S : Type 0} {T : Type 0} (tells : S → Option (List ℕ
   -- The call changes neither what is known of the source's bytes nor its length.
   pub told : tells new ≡ tells old
   pub size : size_of new ≡ size_of old
-  -- The source's count of failures rises with SourceFailed, and is unchanged after a success and after OutOfMemory.
+  -- The source's count of failures rises by one with SourceFailed, and is unchanged after a success and after any other
+  -- error.
   pub kept : OnOk result (failures_of new ≡ failures_of old)
-  pub failed : IsErrOf result SourceFailed → failures_of old < failures_of new
-  pub memory : IsErrOf result OutOfMemory → failures_of new ≡ failures_of old
+  pub failed : IsErrOf result SourceFailed → failures_of new ≡ failures_of old + 1
+  pub others : IfErr result (λ fault. (fault ≡ SourceFailed) ⊎ (failures_of new ≡ failures_of old))
   -- OutOfMemory comes only if the vector's capacity was less than the stripe's length.
   pub room : IsErrOf result OutOfMemory → capacity < stripe_length info
 

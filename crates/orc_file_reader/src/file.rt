@@ -49,15 +49,12 @@ impl<S: Source> OrcFile<S> {
         // If the source's bytes are known, then an error is `OutOfMemory`, `SourceFailed`, or the fault of the
         // first test of a tail that the bytes fail.
         ensures fault { IfErr result (λ e. ReadFault (S.told source) e.0 (λ bytes. TailOpenFault bytes e.0)) }
-        // An error is `SourceFailed`, or the source's count of failures is unchanged and the error is
-        // `OutOfMemory` or the fault of a test of a tail.
-        ensures unfailed { IfErr result (λ e. (e.0 ≡ SourceFailed)
-            ⊎ (IsOfTail e.0 × (S.failures e.1 ≡ S.failures source))) }
+        // An error is `SourceFailed`, `OutOfMemory` or the fault of a test of a tail.
+        ensures named { IfErr result (λ e. (e.0 ≡ SourceFailed) ⊎ IsOfTail e.0) }
         // The source, which an opened file keeps and an error returns, has its former length, and the same is
-        // known of its bytes. Its count of failures rises with `SourceFailed`, and stays the same after a
-        // success and after `OutOfMemory`.
-        ensures source { HandsBackSource S.told S.size S.failures SourceFailed (λ fault. fault ≡ OutOfMemory)
-            (λ file. file.source) source result }
+        // known of its bytes. Its count of failures rises by one with `SourceFailed`, and stays the same after
+        // a success and after any other error.
+        ensures source { HandsBackSource S.told S.size S.failures SourceFailed (λ file. file.source) source result }
     {
         OrcFile::open_capped(alloc, source, u64::MAX)
     }
@@ -89,15 +86,12 @@ impl<S: Source> OrcFile<S> {
         // first test that the bytes fail. The tests are those of both ends and the postscript, `cap` (`Limit`),
         // and the other tests of a tail, in this order.
         ensures fault { IfErr result (λ e. ReadFault (S.told source) e.0 (λ bytes. CappedFault cap bytes e.0)) }
-        // An error is `SourceFailed`, or the source's count of failures is unchanged and the error is
-        // `OutOfMemory` or the fault of a test of a tail.
-        ensures unfailed { IfErr result (λ e. (e.0 ≡ SourceFailed)
-            ⊎ (IsOfTail e.0 × (S.failures e.1 ≡ S.failures source))) }
+        // An error is `SourceFailed`, `OutOfMemory` or the fault of a test of a tail.
+        ensures named { IfErr result (λ e. (e.0 ≡ SourceFailed) ⊎ IsOfTail e.0) }
         // The source, which an opened file keeps and an error returns, has its former length, and the same is
-        // known of its bytes. Its count of failures rises with `SourceFailed`, and stays the same after a
-        // success and after `OutOfMemory`.
-        ensures source { HandsBackSource S.told S.size S.failures SourceFailed (λ fault. fault ≡ OutOfMemory)
-            (λ file. file.source) source result }
+        // known of its bytes. Its count of failures rises by one with `SourceFailed`, and stays the same after
+        // a success and after any other error.
+        ensures source { HandsBackSource S.told S.size S.failures SourceFailed (λ file. file.source) source result }
     {
         let mut source = source;
         match read_capped_tail(alloc, &mut source, cap) {

@@ -1,9 +1,10 @@
 -- What each push of a row to a writer promises, about the writer before and after it, the row and the answer (this
 -- project's).
-use Rattle.std.specs.Prelude.{◌≡◌, ◌+◌, ◌<◌, ◌≤◌, ◌⊎◌, ◌↔◌, ◌++◌, ◌∷◌, [], ℕ, List, Option, length, true, false, Result, IfErr, OnOk, OnErr, IsErrOf}
+use Rattle.std.specs.Prelude.{◌≡◌, ◌+◌, ◌≤◌, ◌⊎◌, ◌↔◌, ◌++◌, ◌∷◌, [], ℕ, List, Option, length, true, false, Result, IfErr, OnOk, OnErr, IsErrOf}
 use Rattle.orc_values.specs.Cells.{Cell}
 use Rattle.orc_values.specs.Fits as fitting
 use Rattle.orc_row_batch.specs.Batch.{kept_rows}
+use Rattle.orc_io.specs.Leaves.{LeavesSink}
 use Rattle.orc_io.specs.declared.sink.Sink.{Ghosts}
 use Rattle.orc_tail.specs.declared.fault.FileFault.{FileFault}
 use Rattle.orc_tail.specs.declared.fault.FileFault.TheVariants as fault
@@ -70,9 +71,6 @@ pub record TakesRow {W : Type 0} {ghosts : Ghosts W} {T : Type 0} (told : W → 
   pub cut : (first : Option (List ℕ)) (rows : List Cell) → HasPushed (progress told old) first rows
       → old.failed ≡ false → new.failed ≡ true
       → IsCutOff old.options old.schema first (told new.out) (rows ++ row ∷ [])
-  -- The output's count of failures rises with WriteFailed, and is unchanged after a success and after OutOfMemory.
-  pub write_failed : IsErrOf result fault.WriteFailed → failures old.out < failures new.out
-  pub memory : IsErrOf result fault.OutOfMemory → failures new.out ≡ failures old.out
-  pub no_failure : OnOk result (failures new.out ≡ failures old.out)
-  -- The output's count of failures is unchanged after each error but WriteFailed.
-  pub unfailed : IfErr result (λ e. (e ≡ fault.WriteFailed) ⊎ (failures new.out ≡ failures old.out))
+  -- The output's count of failures rises by one with WriteFailed, and is unchanged after a success and after any other
+  -- error.
+  pub out : LeavesSink failures fault.WriteFailed old.out new.out result

@@ -146,17 +146,5 @@ tail_unfound n told why source memory (inr (inr fails)) (inl is) = absurd (sourc
 tail_unfound n told why source memory (inr (inr fails)) (inr of_tail) =
     inr (inr (why, refl, fails, record { no_memory = memory; no_source = source }, of_tail))
 
--- an input whose number of failures rose is there
-pub rose_within : {A : Type 0} (told : A → Option (List ℕ)) (failures : A → ℕ) (xs ys : List A) (i : ℕ) → map told ys ≡ map told xs
-    → slice_index (map failures xs) i < slice_index (map failures ys) i → i < length xs
-rose_within told failures [] [] i same rose = absurd (omega (arith, rose))
-rose_within told failures [] (y ∷ ys) i same rose = cc
-rose_within told failures (x ∷ xs) [] i same rose = cc
-rose_within told failures (x ∷ xs) (y ∷ ys) zero same rose = omega arith
-rose_within told failures (x ∷ xs) (y ∷ ys) (suc i) same rose =
-    let rest : map told ys ≡ map told xs = cc in
-    let there : i < length xs = rose_within told failures xs ys i rest rose in
-    omega (arith, there)
-
 pub as_long : {A : Type 0} (told : A → Option (List ℕ)) (xs ys : List A) → map told ys ≡ map told xs → length ys ≡ length xs
 as_long told xs ys same = sym (length-map ys told) ∙ ap length same ∙ length-map xs told

@@ -10,6 +10,7 @@ pub mod FoundPairs
 pub mod Pairs
 pub mod PiecesOf
 pub mod InputsRead
+pub mod FailureCounts
 pub mod NextTests
 pub mod Finished
 pub mod Together

@@ -1,8 +1,9 @@
 -- What holds after a merge (own).
-use Rattle.std.specs.Prelude.{◌≡◌, ◌⊎◌, ℕ, ◌<◌, ◌^◌, List, length, Option}
+use Rattle.std.specs.Prelude.{◌≡◌, ◌⊎◌, ℕ, ◌+◌, ◌<◌, ◌^◌, List, length, set, slice_index, Option}
 use Rattle.orc_io.specs.Devices.{appended}
 use Rattle.orc_tail.specs.declared.tail.Tail.{Tail}
 use Rattle.orc_merger.specs.declared.fault.MergeFault.{MergeFault}
+use Rattle.orc_merger.specs.declared.fault.MergeFault.TheVariants.{SourceFailed}
 use Rattle.orc_merger.specs.Merging.{IsMerge}
 use Rattle.orc_merger.specs.Faults.{IsMergeRefused, IsDeviceFault}
 use Rattle.orc_merger.specs.Copies.{WroteSome}
@@ -22,3 +23,9 @@ pub record WroteMerge (files : List (List ℕ)) (tail : Tail) (old new : Option 
 abbrev pub WrotePart : List (List ℕ) → Option (List ℕ) → Option (List ℕ) → Type 0
 WrotePart files old new =
     (new ≡ old) ⊎ ((tail : Tail) × (bytes : List ℕ) × IsMerge files tail bytes × WroteSome old new bytes)
+
+-- the counts of failures of all sources after a merge that failed with this fault: one more than before for the source
+-- that failed, if one did, and unchanged for all others
+abbrev pub counts_after : MergeFault → List ℕ → List ℕ
+counts_after (SourceFailed i) counts = set counts i (slice_index counts i + 1)
+counts_after _ counts = counts

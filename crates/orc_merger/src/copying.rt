@@ -1,40 +1,35 @@
 //! Writes the merged file: `ORC`, the inputs' stripes, which are copied through one array, and the tail.
-ghost use Rattle.std.specs.Prelude.{◌≡◌, ◌+◌, ◌<◌, ◌≤◌, ◌++◌, ℕ, List, Some, length, map, slice_index, IfErr, OnOk, IsErrOf, All};
+ghost use Rattle.std.specs.Prelude.{◌≡◌, ◌+◌, ◌<◌, ◌≤◌, ◌⊎◌, ◌++◌, ℕ, List, Some, length, map, slice_index, IfErr, OnOk, All};
 ghost use Rattle.std.specs.Bool.{OnTrue, OnFalse};
 ghost use Rattle.orc_io.specs.Devices.{appended};
+ghost use Rattle.orc_io.specs.Leaves.{LeavesSource, LeavesSink};
 ghost use Rattle.orc_tail.specs.Layout.{magic};
-ghost use Rattle.orc_merger.specs.Copies.{Copied, CopiedSome, WroteSome, IsLastOfInput};
+ghost use Rattle.orc_merger.specs.declared.fault.MergeFault.TheVariants as fault;
+ghost use Rattle.orc_merger.specs.Copies.{Copied, CopiedSome, WroteSome, IsLastOfInput, IsOfCopy};
 ghost use Rattle.orc_merger.specs.Copies.{piece_at, piece_bytes, pieces_bytes};
+ghost use Rattle.orc_merger.specs.Outcomes.{counts_after};
 
+use crate::fault::MergeFault;
 use orc_io::{Sink, Source, write_all};
-
-/// Which device failed while bytes were copied.
-#[derive(Clone, Copy)]
-pub(crate) enum CopyFault {
-    SourceFailed,
-    WriteFailed,
-}
 
 /// The number of bytes that are held at a time.
 const WINDOW: usize = 16_384;
 
-/// Copies `len` bytes of a source, from offset `at` on, through one array: a read for each full array and one for the
-/// bytes that are left.
+/// Copies `len` bytes of the source with this number, from offset `at` on, through one array: a read for each full array
+/// and one for the bytes that are left.
 fn copy_range<S: Source, W: Sink>(
+    number: usize,
     source: &mut S,
     at: u64,
     len: u64,
     out: &mut W,
-) -> Result<(), CopyFault>
+) -> Result<(), MergeFault>
     requires { at + len ≤ S.size source.old }
-    ensures size { S.size source.new ≡ S.size source.old }
-    ensures told { S.told source.new ≡ S.told source.old }
     ensures all { OnOk result (Copied (S.told source.old) at len (W.told out.old) (W.told out.new)) }
     ensures prefix { CopiedSome (S.told source.old) at len (W.told out.old) (W.told out.new) }
-    ensures kept { OnOk result ((S.failures source.new ≡ S.failures source.old)
-        × (W.failures out.new ≡ W.failures out.old)) }
-    ensures source_failed { IsErrOf result CopyFault.SourceFailed → S.failures source.old < S.failures source.new }
-    ensures write_failed { IsErrOf result CopyFault.WriteFailed → W.failures out.old < W.failures out.new }
+    ensures fault { IfErr result (λ e. (e ≡ fault.SourceFailed number) ⊎ (e ≡ fault.WriteFailed)) }
+    ensures source { LeavesSource S.told S.size S.failures (fault.SourceFailed number) source.old source.new result }
+    ensures output { LeavesSink W.failures fault.WriteFailed out.old out.new result }
 {
     // for its contract alone: the source's size is a number of 64 bits, and so is each place in it
     let _all = source.len();
@@ -45,11 +40,11 @@ fn copy_range<S: Source, W: Sink>(
         let part = &mut window[..n];
         match source.read_at(at + done, part) {
             Ok(()) => {}
-            Err(_) => return Err(CopyFault::SourceFailed),
+            Err(_) => return Err(MergeFault::SourceFailed(number)),
         }
         match write_all(out, part) {
             Ok(()) => {}
-            Err(_) => return Err(CopyFault::WriteFailed),
+            Err(_) => return Err(MergeFault::WriteFailed),
         }
         done += n as u64;
     }
@@ -77,14 +72,13 @@ fn is_last_of_input(pieces: &[Piece], i: usize) -> bool
 }
 
 /// Copies the piece with this number. The input rests after its last consecutive piece and after an error. The pieces
-/// of an input are consecutive, so each input rests before the next one is read. An error has the number of the
-/// input.
+/// of an input are consecutive, so each input rests before the next one is read.
 fn copy_piece<S: Source, W: Sink>(
     inputs: &mut [S],
     pieces: &[Piece],
     i: usize,
     out: &mut W,
-) -> Result<(), (usize, CopyFault)>
+) -> Result<(), MergeFault>
     requires number { i < length pieces.now }
     requires input { (piece_at pieces.now i).input < length inputs.old }
     requires size { (piece_at pieces.now i).offset + (piece_at pieces.now i).len
@@ -95,15 +89,14 @@ fn copy_piece<S: Source, W: Sink>(
         → W.told out.new ≡ appended (W.told out.old) (piece_bytes files (piece_at pieces.now i))) }
     ensures some { (files : List (List ℕ)) → map S.told inputs.old ≡ map Some files
         → WroteSome (W.told out.old) (W.told out.new) (piece_bytes files (piece_at pieces.now i)) }
-    ensures kept { OnOk result ((map S.failures inputs.new ≡ map S.failures inputs.old)
-        × (W.failures out.new ≡ W.failures out.old)) }
-    ensures source_failed { IfErr result (λ e. e.1 ≡ CopyFault.SourceFailed
-        → slice_index (map S.failures inputs.old) e.0 < slice_index (map S.failures inputs.new) e.0) }
-    ensures write_failed { IfErr result (λ e. e.1 ≡ CopyFault.WriteFailed → W.failures out.old < W.failures out.new) }
+    ensures named { IfErr result (IsOfCopy (length inputs.old)) }
+    ensures kept { OnOk result (map S.failures inputs.new ≡ map S.failures inputs.old) }
+    ensures sources { IfErr result (λ e. map S.failures inputs.new ≡ counts_after e (map S.failures inputs.old)) }
+    ensures output { LeavesSink W.failures fault.WriteFailed out.old out.new result }
 {
     let piece = pieces[i];
     let input = &mut inputs[piece.input];
-    match copy_range(input, piece.offset, piece.len, out) {
+    match copy_range(piece.input, input, piece.offset, piece.len, out) {
         Ok(()) => {
             if is_last_of_input(pieces, i) {
                 input.rest();
@@ -112,29 +105,29 @@ fn copy_piece<S: Source, W: Sink>(
         }
         Err(fault) => {
             input.rest();
-            Err((piece.input, fault))
+            Err(fault)
         }
     }
 }
 
-/// Copies the pieces, in order. An error has the number of the input.
+/// Copies the pieces, in order.
 fn copy_pieces<S: Source, W: Sink>(
     inputs: &mut [S],
     pieces: &[Piece],
     out: &mut W,
-) -> Result<(), (usize, CopyFault)>
+) -> Result<(), MergeFault>
     requires inputs { All (λ p. p.input < length inputs.old) pieces.now }
     requires sizes { All (λ p. p.offset + p.len ≤ slice_index (map S.size inputs.old) p.input) pieces.now }
     ensures told { map S.told inputs.new ≡ map S.told inputs.old }
+    ensures sizes { map S.size inputs.new ≡ map S.size inputs.old }
     ensures all { OnOk result ((files : List (List ℕ)) → map S.told inputs.old ≡ map Some files
         → W.told out.new ≡ appended (W.told out.old) (pieces_bytes files pieces.now)) }
     ensures some { (files : List (List ℕ)) → map S.told inputs.old ≡ map Some files
         → WroteSome (W.told out.old) (W.told out.new) (pieces_bytes files pieces.now) }
-    ensures kept { OnOk result ((map S.failures inputs.new ≡ map S.failures inputs.old)
-        × (W.failures out.new ≡ W.failures out.old)) }
-    ensures source_failed { IfErr result (λ e. e.1 ≡ CopyFault.SourceFailed
-        → slice_index (map S.failures inputs.old) e.0 < slice_index (map S.failures inputs.new) e.0) }
-    ensures write_failed { IfErr result (λ e. e.1 ≡ CopyFault.WriteFailed → W.failures out.old < W.failures out.new) }
+    ensures named { IfErr result (IsOfCopy (length inputs.old)) }
+    ensures kept { OnOk result (map S.failures inputs.new ≡ map S.failures inputs.old) }
+    ensures sources { IfErr result (λ e. map S.failures inputs.new ≡ counts_after e (map S.failures inputs.old)) }
+    ensures output { LeavesSink W.failures fault.WriteFailed out.old out.new result }
 {
     for i in 0..pieces.len() {
         match copy_piece(inputs, pieces, i, out) {
@@ -145,30 +138,29 @@ fn copy_pieces<S: Source, W: Sink>(
     Ok(())
 }
 
-/// Writes `ORC`, the pieces, and then `text`. An error has the number of the input, or 0 if the output failed while
-/// `ORC` or `text` was written.
+/// Writes `ORC`, the pieces, and then `text`.
 pub(crate) fn write_merged<S: Source, W: Sink>(
     inputs: &mut [S],
     pieces: &[Piece],
     text: &[u8],
     out: &mut W,
-) -> Result<(), (usize, CopyFault)>
+) -> Result<(), MergeFault>
     requires inputs { All (λ p. p.input < length inputs.old) pieces.now }
     requires sizes { All (λ p. p.offset + p.len ≤ slice_index (map S.size inputs.old) p.input) pieces.now }
     ensures told { map S.told inputs.new ≡ map S.told inputs.old }
+    ensures sizes { map S.size inputs.new ≡ map S.size inputs.old }
     ensures all { OnOk result ((files : List (List ℕ)) → map S.told inputs.old ≡ map Some files
         → W.told out.new ≡ appended (W.told out.old) (magic ++ (pieces_bytes files pieces.now ++ text.now))) }
     ensures some { (files : List (List ℕ)) → map S.told inputs.old ≡ map Some files
         → WroteSome (W.told out.old) (W.told out.new) (magic ++ (pieces_bytes files pieces.now ++ text.now)) }
-    ensures kept { OnOk result ((map S.failures inputs.new ≡ map S.failures inputs.old)
-        × (W.failures out.new ≡ W.failures out.old)) }
-    ensures source_failed { IfErr result (λ e. e.1 ≡ CopyFault.SourceFailed
-        → slice_index (map S.failures inputs.old) e.0 < slice_index (map S.failures inputs.new) e.0) }
-    ensures write_failed { IfErr result (λ e. e.1 ≡ CopyFault.WriteFailed → W.failures out.old < W.failures out.new) }
+    ensures named { IfErr result (IsOfCopy (length inputs.old)) }
+    ensures kept { OnOk result (map S.failures inputs.new ≡ map S.failures inputs.old) }
+    ensures sources { IfErr result (λ e. map S.failures inputs.new ≡ counts_after e (map S.failures inputs.old)) }
+    ensures output { LeavesSink W.failures fault.WriteFailed out.old out.new result }
 {
     match write_all(out, b"ORC") {
         Ok(()) => {}
-        Err(_) => return Err((0, CopyFault::WriteFailed)),
+        Err(_) => return Err(MergeFault::WriteFailed),
     }
     match copy_pieces(inputs, pieces, out) {
         Ok(()) => {}
@@ -176,6 +168,6 @@ pub(crate) fn write_merged<S: Source, W: Sink>(
     }
     match write_all(out, text) {
         Ok(()) => Ok(()),
-        Err(_) => Err((0, CopyFault::WriteFailed)),
+        Err(_) => Err(MergeFault::WriteFailed),
     }
 }

@@ -10,7 +10,7 @@ ghost use Rattle.orc_merger.specs.declared.fault.MergeFault.TheVariants as fault
 ghost use Rattle.orc_merger.specs.Merging.{IsMerge};
 ghost use Rattle.orc_merger.specs.Faults.{IsOfBytes, IsOfMerge};
 ghost use Rattle.orc_merger.specs.Copies.{pieces_bytes};
-ghost use Rattle.orc_merger.specs.Outcomes.{IsAnswer};
+ghost use Rattle.orc_merger.specs.Outcomes.{IsAnswer, counts_after};
 ghost use Rattle.orc_merger.specs.Inputs.{IsGatheredOf, CountsFailure};
 
 use crate::copying::Piece;
@@ -33,8 +33,7 @@ fn tail_of<S: Source>(alloc: Global, number: usize, input: &mut S) -> Result<Tai
         × (e ≡ fault.File number why)
         × IfSome (S.told input.old) (λ bytes. TailOpenFault bytes why)
         × IsOfBytes why × IsOfTail why))) }
-    ensures source { LeavesSource S.told S.size S.failures (fault.SourceFailed number) (λ e. e ≡ fault.OutOfMemory)
-        input.old input.new result }
+    ensures source { LeavesSource S.told S.size S.failures (fault.SourceFailed number) input.old input.new result }
 {
     let read = read_tail(alloc, input);
     input.rest();
@@ -58,7 +57,7 @@ fn gather_first<S: Source>(alloc: Global, inputs: &mut [S]) -> Result<Gathered, 
     ensures counted { IfErr result (λ e. CountsFailure (map S.failures inputs.old) (map S.failures inputs.new) e) }
     ensures named { IfErr result (λ e. IsOfMerge (length inputs.old) e) }
     ensures kept { OnOk result (map S.failures inputs.new ≡ map S.failures inputs.old) }
-    ensures memory { IsErrOf result MergeFault.OutOfMemory → map S.failures inputs.new ≡ map S.failures inputs.old }
+    ensures sources { IfErr result (λ e. map S.failures inputs.new ≡ counts_after e (map S.failures inputs.old)) }
 {
     let mut tail = tail_of(alloc, 0, &mut inputs[0])?;
     let lists = take_lists(alloc, &mut tail);
@@ -86,7 +85,7 @@ fn gather_next<S: Source>(
     ensures counted { IfErr result (λ e. CountsFailure (map S.failures inputs.old) (map S.failures inputs.new) e) }
     ensures named { IfErr result (λ e. IsOfMerge (length inputs.old) e) }
     ensures kept { OnOk result (map S.failures inputs.new ≡ map S.failures inputs.old) }
-    ensures memory { IsErrOf result MergeFault.OutOfMemory → map S.failures inputs.new ≡ map S.failures inputs.old }
+    ensures sources { IfErr result (λ e. map S.failures inputs.new ≡ counts_after e (map S.failures inputs.old)) }
 {
     let mut tail = tail_of(alloc, number, &mut inputs[number])?;
     compare(&gathered.first, number, &tail)?;
@@ -118,7 +117,7 @@ pub(crate) fn gather<S: Source>(
     ensures refused { IfErr result (λ e. (files : List (List ℕ))
         → map S.told inputs.old ≡ map Some files → IsAnswer files e) }
     ensures kept { OnOk result (map S.failures inputs.new ≡ map S.failures inputs.old) }
-    ensures memory { IsErrOf result MergeFault.OutOfMemory → map S.failures inputs.new ≡ map S.failures inputs.old }
+    ensures sources { IfErr result (λ e. map S.failures inputs.new ≡ counts_after e (map S.failures inputs.old)) }
     ensures source_failed { (i : ℕ) → IsErrOf result (MergeFault.SourceFailed i)
         → slice_index (map S.failures inputs.old) i < slice_index (map S.failures inputs.new) i }
     ensures file { (i : ℕ) (why : FileFault) → IsErrOf result (MergeFault.File i why) → IsOfBytes why }

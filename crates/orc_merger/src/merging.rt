@@ -1,10 +1,11 @@
 //! The call that merges files.
 ghost use Rattle.std.specs.Prelude.{◌≡◌, ◌<◌, ℕ, List, Some, length, map, slice_index, IfOk, IfErr, OnOk, IsErrOf};
+ghost use Rattle.orc_io.specs.Leaves.{LeavesSink};
 ghost use Rattle.orc_tail.specs.declared.fault.FileFault.{FileFault};
 ghost use Rattle.orc_merger.specs.Faults.{IsDeviceFault, IsOfBytes, IsOfMerge};
-ghost use Rattle.orc_merger.specs.Outcomes.{IsAnswer, WroteMerge, WrotePart};
+ghost use Rattle.orc_merger.specs.Outcomes.{IsAnswer, WroteMerge, WrotePart, counts_after};
 
-use crate::copying::{CopyFault, write_merged};
+use crate::copying::write_merged;
 use crate::fault::MergeFault;
 use crate::gathering::gather;
 use orc_io::{Sink, Source};
@@ -51,17 +52,20 @@ pub fn merge<S: Source, W: Sink>(
     ensures some { IfErr result (λ e. (files : List (List ℕ))
         → map S.told inputs.old ≡ map Some files
         → WrotePart files (W.told out.old) (W.told out.new)) }
-    // If the error is `OutOfMemory`, then the output's bytes are unchanged if they are known, and the counts of
-    // failures of the output and of all sources are unchanged.
-    ensures memory { IsErrOf result MergeFault.OutOfMemory
-        → (W.told out.new ≡ W.told out.old) × (W.failures out.new ≡ W.failures out.old)
-        × (map S.failures inputs.new ≡ map S.failures inputs.old) }
+    // If the error is `OutOfMemory`, then the output's bytes are unchanged if they are known.
+    ensures memory { IsErrOf result MergeFault.OutOfMemory → W.told out.new ≡ W.told out.old }
 
-    // What is known of the sources' bytes is unchanged.
+    // The sources have their former lengths, and the same is known of their bytes.
     ensures told { map S.told inputs.new ≡ map S.told inputs.old }
-    // If merging succeeds, then the counts of failures of all sources and of the output are unchanged.
-    ensures kept { OnOk result ((map S.failures inputs.new ≡ map S.failures inputs.old)
-        × (W.failures out.new ≡ W.failures out.old)) }
+    ensures sizes { map S.size inputs.new ≡ map S.size inputs.old }
+    // If merging succeeds, then the counts of failures of all sources are unchanged.
+    ensures kept { OnOk result (map S.failures inputs.new ≡ map S.failures inputs.old) }
+    // If the error is `SourceFailed(i)`, then the count of failures of source i is one more than before, and those of
+    // all other sources are unchanged. After any other error the counts of all sources are unchanged.
+    ensures sources { IfErr result (λ e. map S.failures inputs.new ≡ counts_after e (map S.failures inputs.old)) }
+    // The output's count of failures rises by one with `WriteFailed`, and stays the same after a success and after any
+    // other error.
+    ensures output { LeavesSink W.failures MergeFault.WriteFailed out.old out.new result }
     // If the error is `SourceFailed(i)`, then the count of failures of source i is higher than before.
     ensures source_failed { (i : ℕ) → IsErrOf result (MergeFault.SourceFailed i)
         → slice_index (map S.failures inputs.old) i < slice_index (map S.failures inputs.new) i }
@@ -71,8 +75,6 @@ pub fn merge<S: Source, W: Sink>(
     // `SchemaDiffers`, `VersionDiffers`, `StrideDiffers` and `OtherFooterFields` never that of the first input. The
     // fault in `File` is that of a test of a tail.
     ensures named { IfErr result (λ e. IsOfMerge (length inputs.old) e) }
-    // If the error is `WriteFailed`, then the output's count of failures is higher than before.
-    ensures write_failed { IsErrOf result MergeFault.WriteFailed → W.failures out.old < W.failures out.new }
 {
     let (tail, pieces) = match gather(alloc, inputs) {
         Ok(found) => found,
@@ -85,7 +87,6 @@ pub fn merge<S: Source, W: Sink>(
     }
     match write_merged(inputs, &pieces, &text, out) {
         Ok(()) => Ok(tail),
-        Err((number, CopyFault::SourceFailed)) => Err(MergeFault::SourceFailed(number)),
-        Err((_, CopyFault::WriteFailed)) => Err(MergeFault::WriteFailed),
+        Err(fault) => Err(fault),
     }
 }

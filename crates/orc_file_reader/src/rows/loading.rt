@@ -36,9 +36,9 @@ pub fn load_stripe<S: Source>(
     requires most { stripes_length tail.now.stripes ≤ most_bytes }
     // If the tail has stripe `number`, and its stripes end within the source and have at most 2^40 bytes together, then
     // `into` has as many bytes as the stripe after a success, and they are the stripe's bytes if the source's bytes are
-    // known. The source has its former length, and the same is known of its bytes. Its count of failures rises with
-    // `SourceFailed`, and stays the same after a success and after `OutOfMemory`. `OutOfMemory` comes only if the
-    // capacity of `into` was less than the stripe's length.
+    // known. The source has its former length, and the same is known of its bytes. Its count of failures rises by one
+    // with `SourceFailed`, and stays the same after a success and after any other error. `OutOfMemory` comes only if
+    // the capacity of `into` was less than the stripe's length.
     ensures loaded { LoadsStripe S.told S.size S.failures source.old source.new (stripe_at tail.now.stripes number)
         (vec_capacity into.old) into.new.items result }
     // If the tail has stripe `number`, and its stripes end within the source and have at most 2^40 bytes together, then
@@ -136,8 +136,8 @@ impl<S: Source> OrcFile<S> {
         requires { number < length self.old.tail.stripes }
         // After a success `into` has as many bytes as stripe `number`, and they are the stripe's bytes if the source's
         // bytes are known. The source has its former length, and the same is known of its bytes. Its count of failures
-        // rises with `SourceFailed`, and stays the same after a success and after `OutOfMemory`. `OutOfMemory` comes
-        // only if the capacity of `into` was less than the stripe's length.
+        // rises by one with `SourceFailed`, and stays the same after a success and after any other error. `OutOfMemory`
+        // comes only if the capacity of `into` was less than the stripe's length.
         ensures loaded { LoadsStripe S.told S.size S.failures self.old.source self.new.source
             (stripe_at self.old.tail.stripes number) (vec_capacity into.old) into.new.items result }
         // The file keeps its tail and its cap.

@@ -83,11 +83,8 @@ impl<S: Source> OrcFile<S> {
             (λ all. CappedRefused self.old.cap self.old.tail.schema all number
             (stripe_at self.old.tail.stripes number) fault)) }
         ensures limit { IsErrOf result Limit → self.old.cap < stripe_length (stripe_at self.old.tail.stripes number) }
-        ensures unfailed { IfErr result (λ fault. (fault ≡ SourceFailed)
-            ⊎ (IsOfRows self.old.cap self.old.tail fault
-            × (S.failures self.new.source ≡ S.failures self.old.source))) }
-        ensures source { LeavesSource S.told S.size S.failures SourceFailed (λ fault. fault ≡ OutOfMemory)
-            self.old.source self.new.source result }
+        ensures named { IfErr result (λ fault. (fault ≡ SourceFailed) ⊎ IsOfRows self.old.cap self.old.tail fault) }
+        ensures source { LeavesSource S.told S.size S.failures SourceFailed self.old.source self.new.source result }
     {
         self.load(number, bytes)?;
         let own = self.stripe_rows(alloc, number, bytes)?;
@@ -133,19 +130,16 @@ impl<S: Source> OrcFile<S> {
         // If the error is `Limit`, then some stripe is longer than the file's cap, even if the source's bytes
         // are unknown.
         ensures limit { IsErrOf result Limit → AllWithin self.old.cap self.old.tail.stripes → ⊥ }
-        // An error is `SourceFailed`, or the source's count of failures is unchanged and the error is one of
-        // three: `OutOfMemory`; `Limit`, only if some stripe is longer than the file's cap; or `Stripe` with
-        // the number of a stripe that is no longer than the cap and the reason, never `OutOfMemory`, why some
-        // bytes of this stripe's length are not this stripe with any rows.
-        ensures unfailed { IfErr result (λ fault. (fault ≡ SourceFailed)
-            ⊎ (IsOfRows self.old.cap self.old.tail fault
-            × (S.failures self.new.source ≡ S.failures self.old.source))) }
+        // An error is one of four: `SourceFailed`; `OutOfMemory`; `Limit`, only if some stripe is longer than
+        // the file's cap; or `Stripe` with the number of a stripe that is no longer than the cap and the
+        // reason, never `OutOfMemory`, why some bytes of this stripe's length are not this stripe with any
+        // rows.
+        ensures named { IfErr result (λ fault. (fault ≡ SourceFailed) ⊎ IsOfRows self.old.cap self.old.tail fault) }
         // If the file's cap is 2^64 - 1, as `OrcFile::open` makes it, then no stripe is longer than the cap.
         ensures uncapped { self.old.cap ≡ no_cap → AllWithin self.old.cap self.old.tail.stripes }
-        // The source has its former length, and the same is known of its bytes. Its count of failures rises
-        // with `SourceFailed`, and stays the same after a success and after `OutOfMemory`.
-        ensures source { LeavesSource S.told S.size S.failures SourceFailed (λ fault. fault ≡ OutOfMemory)
-            self.old.source self.new.source result }
+        // The source has its former length, and the same is known of its bytes. Its count of failures rises by
+        // one with `SourceFailed`, and stays the same after a success and after any other error.
+        ensures source { LeavesSource S.told S.size S.failures SourceFailed self.old.source self.new.source result }
     {
         let mut rows = Vec::new(alloc);
         let mut bytes = Vec::new(alloc);

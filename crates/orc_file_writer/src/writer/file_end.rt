@@ -94,8 +94,7 @@ pub(crate) fn end_file<W: Sink>(
         × (W.told out.new ≡ appended (W.told out.old)
         (take n (tail_text (written_tail options schema stripes.infos.items stripes.stats.items))))) }
     ensures refused { IfErr result (λ e. (e ≡ WriteFailed) ⊎ (e ≡ OutOfMemory)) }
-    ensures sink { LeavesSink W.failures WriteFailed (λ e. e ≡ OutOfMemory) out.old out.new result }
-    ensures unfailed { IfErr result (λ e. (e ≡ WriteFailed) ⊎ (W.failures out.new ≡ W.failures out.old)) }
+    ensures sink { LeavesSink W.failures WriteFailed out.old out.new result }
 {
     schema.limit_laws();
     let tail = tail_of(alloc, options, schema, stripes)?;

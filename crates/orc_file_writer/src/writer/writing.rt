@@ -12,7 +12,7 @@ ghost use Rattle.orc_row_batch.specs.Batch.{kept_rows};
 ghost use Rattle.orc_column_reader.specs.Stripe.{IsStripe};
 ghost use Rattle.orc_stripe_writer.specs.WrittenStripe.{IsWrittenStripe, HaveStats};
 ghost use Rattle.orc_io.specs.Devices.{appended};
-ghost use Rattle.orc_io.specs.Leaves.{LeavesSink};
+ghost use Rattle.orc_io.specs.Leaves.{LeavesSink, HandsBackSink};
 ghost use Rattle.orc_tail.specs.Stripes.{stripe_length, stripes_length, stripes_rows, most_stripes, most_rows, most_bytes};
 ghost use Rattle.orc_file_writer.specs.Counts.{are_laid_with_few_rows, are_few, are_all_stats, with_row, PassesLimit};
 ghost use Rattle.orc_file_writer.specs.Writing.{HasTaken, HasKept, HasPushed, HasFilled, IsCutOff, WroteWholeFile, PassesBytes};
@@ -60,11 +60,9 @@ impl<W: Sink> Writer<W> {
         // If the call fails and the output's bytes are known, then the output has got a prefix of a file
         // without rows.
         ensures cut { IfErr result (λ e. IsCutOff options schema (W.told out) (W.told e.1) []) }
-        // The output's count of failures rises with `WriteFailed`, and stays the same after a success and after
-        // `OutOfMemory`.
-        ensures write_failed { IfErr result (λ e. e.0 ≡ fault.WriteFailed → W.failures out < W.failures e.1) }
-        ensures memory { IfErr result (λ e. e.0 ≡ fault.OutOfMemory → W.failures e.1 ≡ W.failures out) }
-        ensures no_failure { IfOk result (λ w. W.failures w.out ≡ W.failures out) }
+        // The output's count of failures rises by one with `WriteFailed`, and stays the same after a success and after
+        // any other error.
+        ensures out { HandsBackSink W.failures fault.WriteFailed (λ w. w.out) out result }
     {
         schema.limit_laws();
         let mut out = out;
@@ -164,10 +162,7 @@ impl<W: Sink> Writer<W> {
         ensures ok { OnOk result (self.new.failed ≡ false) }
         ensures failed { OnErr result (self.new.failed ≡ true) }
         ensures refused { IfErr result (λ e. (e ≡ fault.WriteFailed) ⊎ (e ≡ fault.OutOfMemory)) }
-        ensures out { LeavesSink W.failures fault.WriteFailed (λ e. e ≡ fault.OutOfMemory)
-            self.old.out self.new.out result }
-        ensures unfailed { IfErr result
-            (λ e. (e ≡ fault.WriteFailed) ⊎ (W.failures self.new.out ≡ W.failures self.old.out)) }
+        ensures out { LeavesSink W.failures fault.WriteFailed self.old.out self.new.out result }
     {
         self.failed = true;
         match write_all(&mut self.out, &stripe.bytes) {
@@ -216,10 +211,7 @@ impl<W: Sink> Writer<W> {
             → PassesBytes self.old.options self.old.schema self.old.infos.items
             (kept_rows self.old.schema self.old.batch) }
         ensures refused { IfErr result (λ e. (e ≡ fault.WriteFailed) ⊎ ((e ≡ fault.Limit) ⊎ (e ≡ fault.OutOfMemory))) }
-        ensures out { LeavesSink W.failures fault.WriteFailed (λ e. e ≡ fault.OutOfMemory)
-            self.old.out self.new.out result }
-        ensures unfailed { IfErr result
-            (λ e. (e ≡ fault.WriteFailed) ⊎ (W.failures self.new.out ≡ W.failures self.old.out)) }
+        ensures out { LeavesSink W.failures fault.WriteFailed self.old.out self.new.out result }
     {
         match self.stripe_of() {
             Ok(stripe) => self.send(stripe),
@@ -331,10 +323,7 @@ impl<W: Sink> Writer<W> {
         ensures refused { IfErr result (λ e. (e ≡ fault.Limit) ⊎ ((e ≡ fault.WriteFailed) ⊎ (e ≡ fault.OutOfMemory))) }
         ensures ok { OnOk result (self.new.failed ≡ false) }
         ensures failed { OnErr result (self.new.failed ≡ true) }
-        ensures out { LeavesSink W.failures fault.WriteFailed (λ e. e ≡ fault.OutOfMemory)
-            self.old.out self.new.out result }
-        ensures unfailed { IfErr result
-            (λ e. (e ≡ fault.WriteFailed) ⊎ (W.failures self.new.out ≡ W.failures self.old.out)) }
+        ensures out { LeavesSink W.failures fault.WriteFailed self.old.out self.new.out result }
     {
         self.keep(row)?;
         if self.batch.len() >= self.options.stripe_rows() as usize {
@@ -367,7 +356,7 @@ impl<W: Sink> Writer<W> {
         // statistics, rows and counts are unchanged. If a list of rows has been pushed to the writer, the writer fails
         // by this push and the output's bytes are known, then the output has got a prefix of a file of the first n rows
         // of the list with `row` at its end, for some n. If the writer counted as many bytes as the output had got, it
-        // still does. The output's count of failures rises with `WriteFailed`, and stays the same otherwise.
+        // still does. The output's count of failures rises by one with `WriteFailed`, and stays the same otherwise.
         ensures takes { TakesRow W.told W.failures self.old self.new (view row.entry) result }
     {
         let pushed = self.push(&row);
@@ -410,7 +399,7 @@ impl<W: Sink> Writer<W> {
         // statistics, rows and counts are unchanged. If a list of rows has been pushed to the writer, the writer fails
         // by this push and the output's bytes are known, then the output has got a prefix of a file of the first n rows
         // of the list with `row` at its end, for some n. If the writer counted as many bytes as the output had got, it
-        // still does. The output's count of failures rises with `WriteFailed`, and stays the same otherwise.
+        // still does. The output's count of failures rises by one with `WriteFailed`, and stays the same otherwise.
         ensures takes { TakesRow W.told W.failures self.old self.new (view row.now) result }
     {
         self.admit(row)?;
@@ -468,10 +457,7 @@ impl<W: Sink> Writer<W> {
             (kept_rows self.old.schema self.old.batch) }
         ensures begun { OnErr result (0 < length (kept_rows self.old.schema self.old.batch)) }
         ensures refused { IfErr result (λ e. (e ≡ fault.WriteFailed) ⊎ ((e ≡ fault.Limit) ⊎ (e ≡ fault.OutOfMemory))) }
-        ensures out { LeavesSink W.failures fault.WriteFailed (λ e. e ≡ fault.OutOfMemory)
-            self.old.out self.new.out result }
-        ensures unfailed { IfErr result
-            (λ e. (e ≡ fault.WriteFailed) ⊎ (W.failures self.new.out ≡ W.failures self.old.out)) }
+        ensures out { LeavesSink W.failures fault.WriteFailed self.old.out self.new.out result }
     {
         if self.batch.len() == 0 {
             return Ok(());
@@ -517,14 +503,9 @@ impl<W: Sink> Writer<W> {
             → HasPushed (progress W.told self) first rows
             → self.failed ≡ false
             → IfErr result (λ e. IsCutOff self.options self.schema first (W.told e.1) rows) }
-        // The output's count of failures rises with `WriteFailed`, and stays the same after a success and after
-        // `OutOfMemory`.
-        ensures write_failed { IfErr result (λ e. e.0 ≡ fault.WriteFailed → W.failures self.out < W.failures e.1) }
-        ensures memory { IfErr result (λ e. e.0 ≡ fault.OutOfMemory → W.failures e.1 ≡ W.failures self.out) }
-        ensures no_failure { IfOk result (λ done. W.failures done.1 ≡ W.failures self.out) }
-        // If the call fails with any error but `WriteFailed`, then the output's count of failures is unchanged.
-        ensures unfailed { IfErr result
-            (λ e. (e.0 ≡ fault.WriteFailed) ⊎ (W.failures e.1 ≡ W.failures self.out)) }
+        // The output's count of failures rises by one with `WriteFailed`, and stays the same after a success and after
+        // any other error.
+        ensures out { HandsBackSink W.failures fault.WriteFailed (λ done. done.1) self.out result }
     {
         let mut writer = self;
         if writer.failed {

@@ -36,8 +36,7 @@ fn read_into<S: Source>(source: &mut S, at: u64, into: &mut [u8]) -> Result<(), 
     ensures length { length into.new ≡ length into.old }
 
     ensures fault { IfErr result (λ fault. fault ≡ SourceFailed) }
-    ensures source { LeavesSource S.told S.size S.failures SourceFailed (λ fault. fault ≡ OutOfMemory)
-        source.old source.new result }
+    ensures source { LeavesSource S.told S.size S.failures SourceFailed source.old source.new result }
 {
     match source.read_at(at, into) {
         Ok(()) => Ok(()),
@@ -56,8 +55,7 @@ fn range_of<S: Source>(
     ensures bytes { IfOk result (λ read. IfSome (S.told source.old) (λ bytes. read.items ≡ bytes_at at len bytes)) }
 
     ensures fault { IfErr result (λ fault. (fault ≡ OutOfMemory) ⊎ (fault ≡ SourceFailed)) }
-    ensures source { LeavesSource S.told S.size S.failures SourceFailed (λ fault. fault ≡ OutOfMemory)
-        source.old source.new result }
+    ensures source { LeavesSource S.told S.size S.failures SourceFailed source.old source.new result }
 {
     match read_range(alloc, source, at, len) {
         Ok(read) => Ok(read),
@@ -86,10 +84,8 @@ fn read_end<S: Source>(alloc: Global, source: &mut S) -> Result<End, FileFault>
 
     ensures fault { IfErr result (λ fault. ReadFault (S.told source.old) fault
         (λ bytes. (end_tests bytes).fails fault)) }
-    ensures unfailed { IfErr result (λ fault. (fault ≡ SourceFailed)
-        ⊎ (IsOfTail fault × (S.failures source.new ≡ S.failures source.old))) }
-    ensures source { LeavesSource S.told S.size S.failures SourceFailed (λ fault. fault ≡ OutOfMemory)
-        source.old source.new result }
+    ensures named { IfErr result (λ fault. (fault ≡ SourceFailed) ⊎ IsOfTail fault) }
+    ensures source { LeavesSource S.told S.size S.failures SourceFailed source.old source.new result }
 {
     let len = source.len();
     if len < 4 {
@@ -152,16 +148,13 @@ pub fn read_capped_tail<S: Source>(
     // that the bytes fail: of the tests of both ends and of the postscript, then the one of the cap, whose fault is
     // `Limit`, then the other tests of a tail.
     ensures fault { IfErr result (λ fault. ReadFault (S.told source.old) fault (λ bytes. CappedFault cap bytes fault)) }
-    // An error is `SourceFailed`, or the source's count of failures is unchanged and the error is `NotOrc`,
-    // `BadPostscript`, `Compressed` with a kind other than 0, `Encrypted`, `BadLengths`, `BadFooter`, `BadMetadata`,
-    // `BadTypes` with a fault other than `OutOfMemory`, `BadStripe` with a number below 65,536, `RowCount`, `Limit` or
-    // `OutOfMemory`.
-    ensures unfailed { IfErr result (λ fault. (fault ≡ SourceFailed)
-        ⊎ (IsOfTail fault × (S.failures source.new ≡ S.failures source.old))) }
+    // An error is `SourceFailed`, `NotOrc`, `BadPostscript`, `Compressed` with a kind other than 0, `Encrypted`,
+    // `BadLengths`, `BadFooter`, `BadMetadata`, `BadTypes` with a fault other than `OutOfMemory`, `BadStripe` with a
+    // number below 65,536, `RowCount`, `Limit` or `OutOfMemory`.
+    ensures named { IfErr result (λ fault. (fault ≡ SourceFailed) ⊎ IsOfTail fault) }
     // The call changes neither the source's length nor what is known of its bytes. The source's count of failures rises
-    // if the error is `SourceFailed`, and is unchanged if a tail is returned or the error is `OutOfMemory`.
-    ensures source { LeavesSource S.told S.size S.failures SourceFailed (λ fault. fault ≡ OutOfMemory)
-        source.old source.new result }
+    // by one if the error is `SourceFailed`, and is unchanged if a tail is returned or with any other error.
+    ensures source { LeavesSource S.told S.size S.failures SourceFailed source.old source.new result }
 {
     let End {
         postscript,
@@ -217,16 +210,13 @@ pub fn read_tail<S: Source>(alloc: Global, source: &mut S) -> Result<Tail, FileF
     // If the source's bytes are known, then an error is `OutOfMemory`, `SourceFailed`, or the fault of the first test
     // of a tail that the bytes fail.
     ensures fault { IfErr result (λ fault. ReadFault (S.told source.old) fault (λ bytes. TailOpenFault bytes fault)) }
-    // An error is `SourceFailed`, or the source's count of failures is unchanged and the error is `NotOrc`,
-    // `BadPostscript`, `Compressed` with a kind other than 0, `Encrypted`, `BadLengths`, `BadFooter`, `BadMetadata`,
-    // `BadTypes` with a fault other than `OutOfMemory`, `BadStripe` with a number below 65,536, `RowCount`, `Limit` or
-    // `OutOfMemory`.
-    ensures unfailed { IfErr result (λ fault. (fault ≡ SourceFailed)
-        ⊎ (IsOfTail fault × (S.failures source.new ≡ S.failures source.old))) }
+    // An error is `SourceFailed`, `NotOrc`, `BadPostscript`, `Compressed` with a kind other than 0, `Encrypted`,
+    // `BadLengths`, `BadFooter`, `BadMetadata`, `BadTypes` with a fault other than `OutOfMemory`, `BadStripe` with a
+    // number below 65,536, `RowCount`, `Limit` or `OutOfMemory`.
+    ensures named { IfErr result (λ fault. (fault ≡ SourceFailed) ⊎ IsOfTail fault) }
     // The call changes neither the source's length nor what is known of its bytes. The source's count of failures rises
-    // if the error is `SourceFailed`, and is unchanged if a tail is returned or the error is `OutOfMemory`.
-    ensures source { LeavesSource S.told S.size S.failures SourceFailed (λ fault. fault ≡ OutOfMemory)
-        source.old source.new result }
+    // by one if the error is `SourceFailed`, and is unchanged if a tail is returned or with any other error.
+    ensures source { LeavesSource S.told S.size S.failures SourceFailed source.old source.new result }
 {
     read_capped_tail(alloc, source, u64::MAX)
 }

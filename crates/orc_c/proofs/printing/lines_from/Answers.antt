@@ -1,4 +1,4 @@
-use Rattle.std.proofs.Common.{◌<◌, ℕ, List, Some, ap, Err, arith}
+use Rattle.std.proofs.Common.{◌≡◌, ℕ, List, Some, ap, Err, arith}
 use Rattle.orc_values.specs.Cells.{Cell}
 use Rattle.orc_tail.specs.declared.tail.Tail.{Tail}
 use Rattle.orc_file_reader.specs.FileRows.{FileIs}
@@ -21,6 +21,6 @@ returns-in-Err-clause-refused c =
     let lines = c.rows_to.new.out.items in
     let Why : List ℕ → List ℕ → Type 0 = λ b o. RefusesPlace b c.args.from (Some o) (Some lines) was in
     let Only : List ℕ → List ℕ → Type 0 = λ b o. (tail : Tail) (rows : List Cell) → FileIs b tail rows → HaveJson tail.schema rows → IsOutsideFile was in
-    not_printed _ lines _ was _ c.told_of.ensures (λ failed. let rose : 0 < 0 = e.source.failed (ap Err failed) in omega (arith, rose))
+    not_printed _ lines _ was _ c.told_of.ensures (λ failed. let rose : 0 ≡ 1 = e.source.failed (ap Err failed) in omega (arith, rose))
     (at_file _ _ _ Why c.new.ensures.told c.new-lines.ensures.items e.refused)
     (λ none. at_file _ _ _ Only c.new.ensures.told c.new-lines.ensures.items (e.only none))

@@ -1,4 +1,4 @@
-use Rattle.std.proofs.Common.{◌≡◌, ◌≢◌, ◌++◌, ◌<◌, ℕ, List, ap, Err, arith}
+use Rattle.std.proofs.Common.{◌≡◌, ◌≢◌, ◌++◌, ℕ, List, ap, Err, arith}
 use Rattle.orc_tail.specs.Tails.{IsTail}
 use Rattle.orc_tail.specs.declared.tail.Tail.{Tail}
 use Rattle.orc_cli_output.specs.Output.{write_failed, IsNotOpened, IsOutsideFile}
@@ -18,6 +18,6 @@ returns-in-Err-clause-refused c =
     let was = c.in-Err.fault in
     let Why : List ℕ → List ℕ → Type 0 = λ b o. was ≢ write_failed → IsNotOpened b was in
     let Only : List ℕ → List ℕ → Type 0 = λ b o. (tail : Tail) → IsTail b tail → IsOutsideFile was in
-    not_shown _ was _ c.told_of.ensures (λ failed. let rose : 0 < 0 = e.source.failed (ap Err failed) in omega (arith, rose))
+    not_shown _ was _ c.told_of.ensures (λ failed. let rose : 0 ≡ 1 = e.source.failed (ap Err failed) in omega (arith, rose))
     (at_file _ _ _ Why c.new.ensures.told c.new-lines.ensures.items e.refused)
     (at_file _ _ _ Only c.new.ensures.told c.new-lines.ensures.items e.only)

@@ -14,11 +14,11 @@ returns-in_err-merge g c =
       refused = e.refused;
       nothing = e.nothing;
       some = e.some;
-      memory = λ q. (e.memory (same_fault _ _ q)).0;
+      memory = λ q. e.memory (same_fault _ _ q);
       source = λ i q. (c.args.sources.now, c.merge.new.inputs, e.source_failed i (same_fault _ _ q));
       file = λ i why q. e.file i why (same_fault _ _ q);
       named = rw (length-map c.args.sources.now g.I.Source.told) e.named;
-      output = λ q. (c.args.out.now, c.merge.new.out, e.write_failed (same_fault _ _ q));
+      output = λ q. (c.args.out.now, c.merge.new.out, e.output.failed (same_fault _ _ q));
     })
 
 pub returns : goal.returns

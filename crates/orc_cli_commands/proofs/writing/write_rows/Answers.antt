@@ -1,4 +1,4 @@
-use Rattle.std.proofs.Common.{Err, ap, arith}
+use Rattle.std.proofs.Common.{Err, ap}
 use Rattle.orc_cli_commands.proofs.writing.write_rows.Goals as goal
 
 pub returns : goal.returns
@@ -8,7 +8,7 @@ returns g c =
       written = tt;
       only = e.only;
       refused = e.refused;
-      source = λ failed. (c.args.lines.now, c.write_lines.new.lines, let more = e.source failed in omega (arith, more));
+      source = λ failed. (c.args.lines.now, c.write_lines.new.lines, e.source failed);
       output = λ failed. (c.args.out, c.in-Err.out, e.out.failed (ap Err failed));
       layer = e.layer;
     }

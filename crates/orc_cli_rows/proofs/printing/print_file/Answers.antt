@@ -1,5 +1,6 @@
+use Rattle.std.proofs.Common.{ap}
 use Rattle.orc_io.proofs.Leaving.{leaves_as}
-use Rattle.orc_cli_output.proofs.OutputLemmas.{file_want}
+use Rattle.orc_cli_output.specs.declared.fault.CliFault.TheVariants.{File}
 use Rattle.orc_cli_rows.proofs.RowsLemmas.{printed_file, refused_file, refused_open}
 use Rattle.orc_cli_rows.proofs.printing.print_file.Goals as goal
 
@@ -25,4 +26,4 @@ pub returns-in-Err-clause-refused : goal.returns-in-Err-clause-refused
 returns-in-Err-clause-refused g c = refused_open (g.S.Source.told c.args.source) c.args.start (g.W.Write.contents c.args.out.now) c.in-Err.fault c.in-Err.ensures.fault
 
 pub returns-in-Err-clause-source : goal.returns-in-Err-clause-source
-returns-in-Err-clause-source g c = leaves_as (λ e. cc) (file_want c.in-Err.fault) c.in-Err.ensures.source
+returns-in-Err-clause-source g c = leaves_as (λ e. cc) (λ e. ap File e) c.in-Err.ensures.source

@@ -1,4 +1,5 @@
 use Rattle.std.proofs.lemmas.Result.{err_from_is_err_and}
+use Rattle.orc_io.proofs.Leaving.{leaves_both}
 use Rattle.orc_cli_rows.proofs.GroupLemmas.{from_both, ends_at_group, ends_later}
 use Rattle.orc_cli_rows.proofs.printing.print_from.Goals as goal
 
@@ -22,3 +23,6 @@ returns-clause-refused g c =
     let lt = rw (c.as_slice.ensures, c.tail.ensures) at c.if-number-as_slice.false in
     let ends = rw (c.in_ok-print_stripe.ensures.tail, c.in_ok-print_stripe.ensures.source.told) at c.print_rows.ensures.refused in
     ends_later told c.args.file.now.tail c.args.start.stripe c.args.start.group _ (g.W.Write.contents c.print_stripe.new.out) _ c.print_rows.result lt c.in_ok-print_stripe.ensures.written ends
+
+pub returns-clause-source : goal.returns-clause-source
+returns-clause-source g c = leaves_both c.print_rows.result c.in_ok-print_stripe.ensures.source c.print_rows.ensures.source

@@ -37,7 +37,7 @@ returns-in-Err-clause-part g c = λ failed.
     no_output (g.S.Source.told c.args.source) c.in-Err.fault (λ (bytes : List ℕ). (tail : Tail) × IsTail bytes tail × AppendsPart known known (show_lines tail)) c.in-Err.ensures.fault failed
 
 pub returns-in-Err-clause-source : goal.returns-in-Err-clause-source
-returns-in-Err-clause-source g c = leaves_as (λ e. cc) (file_want c.in-Err.fault) c.in-Err.ensures.source
+returns-in-Err-clause-source g c = leaves_as (λ e. cc) (λ e. ap File e) c.in-Err.ensures.source
 
 pub returns-in-Err-clause-layer : goal.returns-in-Err-clause-layer
 returns-in-Err-clause-layer g c = λ want. inr (ap File (file_want c.in-Err.fault want))

@@ -9,7 +9,7 @@ use Rattle.orc_cli_write.specs.Writes.{IsOfWriter, EndsInLines, LimitStands}
 use Rattle.orc_cli_write.specs.Reads.{BeginWith}
 use Rattle.orc_cli_output.specs.Output.{IsOfSource}
 use Rattle.orc_cli_output.specs.declared.fault.CliFault.TheVariants.{File}
-use Rattle.orc_cli_output.proofs.OutputLemmas.{file_want}
+use Rattle.orc_cli_output.proofs.OutputLemmas.{file_want, same_file}
 use Rattle.orc_cli_write.proofs.LimitLemmas.{rest_passes}
 use Rattle.orc_cli_write.proofs.WriteLemmas.{of_begin, of_finish, not_limit, finish_no_source, types_want}
 use Rattle.orc_cli_write.proofs.ReadLemmas.{only_read, ends_reading, ends_behind_all, ends_before_all, writer_no_source}
@@ -96,21 +96,15 @@ pub returns-in-Err-finish-clause-source : goal.returns-in-Err-finish-clause-sour
 returns-in-Err-finish-clause-source g c = λ q. finish_no_source c.in-Err-finish.fault c.in-Err-finish.ensures.refused q
 
 pub returns-in-Err-push_read-clause-out : goal.returns-in-Err-push_read-clause-out
-returns-in-Err-push_read-clause-out g c = rw c.into_out.ensures (sink_as (λ e. e) (λ want. want) (kept_then c.in-Ok-new.ensures.no_failure c.in-Err-push_read.ensures.writer.out))
+returns-in-Err-push_read-clause-out g c = rw c.into_out.ensures (sink_as (λ e. e) (λ e. e) (kept_then c.in-Ok-new.ensures.out.kept c.in-Err-push_read.ensures.writer.out))
 
 pub returns-in-Err-finish-clause-out : goal.returns-in-Err-finish-clause-out
-returns-in-Err-finish-clause-out g c = record {
-  kept = tt;
-  failed = search rules;
-  memory = λ want. c.in-Err-finish.ensures.memory (file_want c.in-Err-finish.fault want) ∙ c.in_default.ensures.writer.out.kept ∙ c.in-Ok-new.ensures.no_failure;
-}
+returns-in-Err-finish-clause-out g c =
+    let kept = c.in_default.ensures.writer.out.kept ∙ c.in-Ok-new.ensures.out.kept in
+    sink_as (λ e. same_file _ _ e) (λ e. ap File e) (kept_then kept c.in-Err-finish.ensures.out)
 
 pub returns-in-Err-new-clause-out : goal.returns-in-Err-new-clause-out
-returns-in-Err-new-clause-out g c = record {
-  kept = tt;
-  failed = search rules;
-  memory = λ want. c.in-Err-new.ensures.memory (file_want c.in-Err-new.fault want);
-}
+returns-in-Err-new-clause-out g c = sink_as (λ e. same_file _ _ e) (λ e. ap File e) c.in-Err-new.ensures.out
 
 pub returns-in-Err-clause-layer : goal.returns-in-Err-clause-layer
 returns-in-Err-clause-layer g c = λ want. inl (types_want c.in-Err.fault want, refl)

@@ -9,7 +9,9 @@ use Rattle.orc_file_writer.specs.Counts.{PassesLimit}
 use Rattle.orc_file_writer.specs.Progress.{progress}
 use Rattle.orc_file_writer.specs.Writing.{PassesBytes, Progress}
 use Rattle.orc_tail.specs.declared.fault.FileFault.TheVariants as file
-use Rattle.orc_cli_output.proofs.OutputLemmas.{file_want}
+use Rattle.orc_cli_output.proofs.OutputLemmas.{same_file}
+use Rattle.orc_cli_output.specs.declared.fault.CliFault.TheVariants.{File}
+use Rattle.orc_io.proofs.Leaving.{kept_then, sink_as}
 use Rattle.orc_cli_write.proofs.LimitLemmas.{row_passes}
 use Rattle.orc_cli_write.proofs.WriteLemmas.{none_spelled, some_spelled, some_line, either, ends_unread, of_writer, pushed_no_source, stands_open, leaves_same}
 use Rattle.orc_cli_write.specs.Writes.{PushesAlso}
@@ -87,11 +89,7 @@ returns-in_err-push_owned-clause-writer g c =
     record {
       same = search rules;
       ready = search rules;
-      out = record {
-        kept = search rules;
-        failed = search rules;
-        memory = rw (p.1, p.2) (λ want. c.in_err-push_owned.ensures.takes.memory (ap Err (file_want c.in_err-push_owned.field-0.0 want)) ∙ ap g.W.Sink.failures c.spare_row-spare.ensures.stays.0);
-      };
+      out = rw (p.1, p.2) (sink_as (λ e. same_file _ _ e) (λ e. ap File e) (kept_then (ap g.W.Sink.failures c.spare_row-spare.ensures.stays.0) c.in_err-push_owned.ensures.takes.out));
     }
 
 pub returns-in_err-row-clause-layer : goal.returns-in_err-row-clause-layer

@@ -1,4 +1,5 @@
 use Rattle.std.proofs.Common.{◌++◌}
+use Rattle.orc_io.proofs.Leaving.{kept_then}
 use Rattle.orc_merger.specs.Copies.{pieces_bytes}
 use Rattle.orc_tail.specs.Layout.{magic}
 use Rattle.orc_merger.proofs.BytesOut.{some_of_more, whole_then_some, all_is_some}
@@ -24,3 +25,6 @@ returns-in-Err-write_all-clause-some g c = λ files same.
     whole_then_some _ _ _ magic (pieces_bytes files c.args.pieces.now ++ c.args.text.now) c.in-Ok.ensures.all
     (whole_then_some _ _ _ (pieces_bytes files c.args.pieces.now) c.args.text.now (c.in-Ok-copy_pieces.ensures.all files same)
     (c.in-Err-write_all.field-0, c.in-Err-write_all.ensures.some))
+
+pub returns-in-Err-copy_pieces-clause-output : goal.returns-in-Err-copy_pieces-clause-output
+returns-in-Err-copy_pieces-clause-output g c = kept_then c.in-Ok.ensures.failures c.in-Err-copy_pieces.ensures.output

@@ -3,6 +3,8 @@ use Rattle.std.proofs.lemmas.List.{length-map}
 use Rattle.std.proofs.lemmas.Result.{err_from_is_err_and}
 use Rattle.orc_merger.proofs.InputsRead.{no_memory, as_long}
 use Rattle.orc_merger.specs.Faults.{IsOfMerge}
+use Rattle.orc_merger.specs.Outcomes.{counts_after}
+use Rattle.orc_merger.proofs.FailureCounts.{memory_counts}
 use Rattle.orc_merger.proofs.Finished.{ok_gives, err_gives, gathered_kinds, merged_file, merged_limits, merged_laid, gathered_inputs, gathered_within}
 use Rattle.orc_merger.proofs.gathering.gather.Goals as goal
 
@@ -59,3 +61,18 @@ pub returns-in_err-gather_next-clause-named : goal.returns-in_err-gather_next-cl
 returns-in_err-gather_next-clause-named g c =
     let p = err_from_is_err_and c.from_residual-in_err-gather_next.result c.from_residual-in_err-gather_next.ensures.1 in
     rw (p.1, p.2) (subst (λ (n : ℕ). IsOfMerge n c.in_err-gather_next.field-0.0) (as_long g.S.Source.told c.args.inputs.now c.loop-number.inputs c.loop-number.invariant.told) c.in_err-gather_next.ensures.named)
+
+pub returns-in_err-gathered-clause-sources : goal.returns-in_err-gathered-clause-sources
+returns-in_err-gathered-clause-sources g c =
+    let p = err_from_is_err_and c.from_residual.result c.from_residual.ensures.1 in
+    rw (p.1, p.2) c.in_err-gathered.ensures.sources
+
+pub returns-in_err-gather_next-clause-sources : goal.returns-in_err-gather_next-clause-sources
+returns-in_err-gather_next-clause-sources g c =
+    let p = err_from_is_err_and c.from_residual-in_err-gather_next.result c.from_residual-in_err-gather_next.ensures.1 in
+    rw (p.1, p.2) (c.in_err-gather_next.ensures.sources ∙ ap (counts_after c.in_err-gather_next.field-0.0) c.loop-number.invariant.failures)
+
+pub returns-clause-sources : goal.returns-clause-sources
+returns-clause-sources g c =
+    let counts = map g.S.Source.failures c.args.inputs.now in
+    err_gives c.finish.result _ _ c.finish.ensures.fault (λ e is. c.loop-number.invariant.failures ∙ sym (memory_counts e is counts))

@@ -1,11 +1,12 @@
-use Rattle.std.proofs.Common.{◌≡◌, ◌<◌, inl, inr, refl, Err, [], ◌∷◌, ◌++◌, map, sym, ap, arith}
+use Rattle.std.proofs.Common.{◌≡◌, ◌<◌, ℕ, inl, inr, Err, List, [], ◌∷◌, ◌++◌, map, sym, ap, arith}
 use Rattle.std.proofs.Math.Seq.{map-set_same}
-use Rattle.std.proofs.lemmas.Result.{err_from_is_err_and, IfErr-at_err}
+use Rattle.std.proofs.lemmas.Result.{err_from_is_err_and}
 use Rattle.orc_tail.specs.declared.tail.Tail.{Tail}
-use Rattle.orc_merger.specs.declared.fault.MergeFault.{MergeFault}
 use Rattle.orc_merger.specs.SoFar.{IsNext}
+use Rattle.orc_merger.specs.Inputs.{CountsFailure}
 use Rattle.orc_merger.proofs.InputsRead.{one_more, open_refused, open_counted, next_refused, no_memory, no_memory_counted, open_named, no_memory_named}
-use Rattle.orc_merger.proofs.NextTests.{kind_of, end_few, kind_refused, join_refused, join_counted, kind_named, join_named}
+use Rattle.orc_merger.proofs.FailureCounts.{above, no_tail_own, input_counts, refused_counts}
+use Rattle.orc_merger.proofs.NextTests.{kind_of, kind_counted, end_few, kind_refused, join_refused, join_counted, kind_named, join_named}
 use Rattle.orc_merger.proofs.gathering.gather_next.Goals as goal
 
 pub returns-in_err-tail-clause-told : goal.returns-in_err-tail-clause-told
@@ -49,7 +50,7 @@ returns-in_err-tail-clause-refused g c =
 pub returns-in_err-tail-clause-counted : goal.returns-in_err-tail-clause-counted
 returns-in_err-tail-clause-counted g c =
     let p = err_from_is_err_and c.from_residual.result c.from_residual.ensures.1 in
-    rw (p.1, p.2) (open_counted g.S.Source.failures c.args.inputs.now c.args.number c.index-inputs-number.result c.tail_of.new.input _ _ c.requires.number c.in_err-tail.ensures.fault (λ is. c.in_err-tail.ensures.source.failed (ap Err is)))
+    rw (p.1, p.2) (open_counted g.S.Source.failures c.args.inputs.now c.args.number c.index-inputs-number.result c.tail_of.new.input _ _ c.requires.number c.in_err-tail.ensures.fault (λ is. above _ _ (c.in_err-tail.ensures.source.failed (ap Err is))))
 
 pub returns-in_err-compare-clause-refused : goal.returns-in_err-compare-clause-refused
 returns-in_err-compare-clause-refused g c =
@@ -129,14 +130,38 @@ pub returns-clause-kept : goal.returns-clause-kept
 returns-clause-kept g c =
     map-set_same g.S.Source.failures c.args.inputs.now c.args.number c.tail_of.new.input c.index-inputs-number.result c.in_ok-tail.ensures.source.kept
 
-pub returns-in_err-tail-clause-memory : goal.returns-in_err-tail-clause-memory
-returns-in_err-tail-clause-memory g c =
+pub returns-in_err-tail-clause-sources : goal.returns-in_err-tail-clause-sources
+returns-in_err-tail-clause-sources g c =
     let p = err_from_is_err_and c.from_residual.result c.from_residual.ensures.1 in
-    rw (p.1, p.2) (λ e. map-set_same g.S.Source.failures c.args.inputs.now c.args.number c.tail_of.new.input c.index-inputs-number.result (c.in_err-tail.ensures.source.memory (IfErr-at_err (λ (x : MergeFault). c.in_err-tail.field-0.0 ≡ x) e refl)))
+    let e = c.in_err-tail.ensures in
+    rw (p.1, p.2) (input_counts g.S.Source.failures c.args.inputs.now c.args.number c.index-inputs-number.result c.tail_of.new.input _ c.requires.number (no_tail_own _ _ _ e.fault) (λ is. e.source.failed (ap Err is)) e.source.others)
 
-pub returns-in_err-add-clause-memory : goal.returns-in_err-add-clause-memory
-returns-in_err-add-clause-memory g c = λ e.
-    map-set_same g.S.Source.failures c.args.inputs.now c.args.number c.tail_of.new.input c.index-inputs-number.result c.in_ok-tail.ensures.source.kept
+pub returns-in_err-compare-clause-sources : goal.returns-in_err-compare-clause-sources
+returns-in_err-compare-clause-sources g c =
+    let p = err_from_is_err_and c.from_residual-in_err-compare.result c.from_residual-in_err-compare.ensures.1 in
+    rw (p.1, p.2) (refused_counts g.S.Source.failures c.args.inputs.now c.args.number c.index-inputs-number.result c.tail_of.new.input _ c.in_ok-tail.ensures.source.kept (kind_counted _ _ c.args.gathered.now.first c.in_ok-tail.tail c.args.number _ c.in_err-compare.ensures.fault))
+
+pub returns-in_err-add-clause-sources : goal.returns-in_err-add-clause-sources
+returns-in_err-add-clause-sources g c =
+    let s = c.requires.before in
+    let t : Tail = c.in_ok-tail.tail in
+    let next : IsNext s.first (s.first ∷ s.rest) t c.args.number c.take_lists-lists.result c.args.gathered.now = record {
+      number_is = sym s.tails_are.many;
+      gathered = s.gathered;
+      merges = s.merges;
+      first_within = s.tails_are.limits.0;
+      tails_within = s.tails_are.limits;
+      tail_within = c.in_ok-tail.ensures.limits;
+      kind = kind_of s.first c.args.gathered.now.first t s.gathered.first_is c.in_ok-compare.ensures.alike;
+      lists_are = c.take_lists-lists.ensures.lists;
+    } in
+    let p = err_from_is_err_and c.from_residual-in_err-add.result c.from_residual-in_err-add.ensures.1 in
+    let counts : List ℕ = map g.S.Source.failures c.args.inputs.now in
+    let counted : CountsFailure counts counts c.in_err-add.field-0.0 = elim c.in_err-add.ensures.fault [
+      | inl is ↦ no_memory_counted _ _ _ is
+      | inr fails ↦ join_counted _ _ s.first t (s.first ∷ (s.rest ++ t ∷ [])) c.args.number _ (fails s.first t (s.first ∷ s.rest) next)
+    ] in
+    rw (p.1, p.2) (refused_counts g.S.Source.failures c.args.inputs.now c.args.number c.index-inputs-number.result c.tail_of.new.input _ c.in_ok-tail.ensures.source.kept counted)
 
 pub returns-in_err-tail-clause-named : goal.returns-in_err-tail-clause-named
 returns-in_err-tail-clause-named g c =

@@ -1,4 +1,4 @@
-use Rattle.std.proofs.Common.{◌≡◌, ◌∙◌, sym, ap, Err, arith, inl, inr}
+use Rattle.std.proofs.Common.{◌≡◌, ◌∙◌, sym, ap, Err, arith}
 use Rattle.std.proofs.lemmas.Result.{err_from_is_err_and}
 use Rattle.orc_values.specs.Views.{views}
 use Rattle.orc_file_reader.proofs.RowFronts.{front_next, front_found, front_only, front_fault, fault_only, within_next, within_all}
@@ -86,9 +86,9 @@ returns-clause-uncapped g c = λ none. none_above c.args.self.now.cap c.args.sel
 pub returns-in_err-read_stripe-clause-uncapped : goal.returns-in_err-read_stripe-clause-uncapped
 returns-in_err-read_stripe-clause-uncapped g c = λ none. none_above c.args.self.now.cap c.args.self.now.tail.stripes none c.args.self.now.bytes
 
-pub returns-in_err-read_stripe-clause-unfailed : goal.returns-in_err-read_stripe-clause-unfailed
-returns-in_err-read_stripe-clause-unfailed g c =
+pub returns-in_err-read_stripe-clause-named : goal.returns-in_err-read_stripe-clause-named
+returns-in_err-read_stripe-clause-named g c =
     let p = err_from_is_err_and c.from_residual.result c.from_residual.ensures.1 in
     let inv = c.loop-number.invariant in
-    let e = rw (inv.tail, inv.cap) at c.in_err-read_stripe.ensures.unfailed in
-    rw (p.1, p.2) (elim e [ inl source ↦ inl source | inr h ↦ inr (h.0, h.1 ∙ inv.kept) ])
+    let e = rw (inv.tail, inv.cap) at c.in_err-read_stripe.ensures.named in
+    rw (p.1, p.2) e

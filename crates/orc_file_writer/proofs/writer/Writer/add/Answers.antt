@@ -55,5 +55,5 @@ returns-then-len-stripe_rows-clause-full g c = λ limit.
     let size = ap (λ (o : Options). o.stripe_rows) c.keep.ensures.same.1 in
     omega (arith, more, size, c.len.ensures k.schema (kept_rows k.schema k.batch) k.held, c.stripe_rows.ensures)
 
-pub returns-then-len-stripe_rows-clause-unfailed : goal.returns-then-len-stripe_rows-clause-unfailed
-returns-then-len-stripe_rows-clause-unfailed g c = rw c.keep.ensures.stands.0 at c.close.ensures.unfailed
+pub returns-then-len-stripe_rows-clause-out : goal.returns-then-len-stripe_rows-clause-out
+returns-then-len-stripe_rows-clause-out g c = rw c.keep.ensures.stands.0 at c.close.ensures.out

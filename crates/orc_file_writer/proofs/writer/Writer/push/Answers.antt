@@ -1,4 +1,5 @@
-use Rattle.std.proofs.Common.{rules}
+use Rattle.std.proofs.Common.{ap, rules}
+use Rattle.orc_io.proofs.Leaving.{kept_then}
 use Rattle.orc_values.specs.Views.{view}
 use Rattle.orc_row_batch.specs.Batch.{kept_rows}
 use Rattle.orc_file_writer.proofs.Spread.{HasPushed}
@@ -27,10 +28,11 @@ returns-in_err-admit-clause-takes g c = record {
   stays_failed = search rules;
   ok = search rules;
   cut = search rules;
-  write_failed = search rules;
-  memory = search rules;
-  no_failure = search rules;
-  unfailed = search rules;
+  out = record {
+    kept = search rules;
+    failed = search rules;
+    others = search rules;
+  };
 }
 
 pub returns-clause-takes : goal.returns-clause-takes
@@ -59,8 +61,5 @@ returns-clause-takes g c = record {
       let before : HasPushed a.options a.schema first (g.W.Sink.told a.out) a.written a.infos.items a.stats.items (kept_rows a.schema a.batch) rows = rw (e.same.0, e.same.1, e.stays.0, e.stays.1, e.stays.2, e.stays.3, e.stays.4) h in
       let cut = c.add.ensures.cut first rows before in
       failed_only c.add.result c.add.new.self.failed (rw (e.same.0, e.same.1) at cut) c.add.ensures.ok failed;
-  write_failed = search rules;
-  memory = search rules;
-  no_failure = search rules;
-  unfailed = search rules;
+  out = kept_then (ap g.W.Sink.failures c.admit.ensures.stays.0) c.add.ensures.out;
 }

@@ -1,4 +1,4 @@
-use Rattle.std.proofs.Common.{arith, inl, inr, [], ◌-◌, ◌∙◌}
+use Rattle.std.proofs.Common.{arith, inl, inr, [], ◌-◌}
 use Rattle.std.proofs.lemmas.Result.{err_from_is_err_and}
 use Rattle.orc_tail.proofs.StripeLemmas.{all_before}
 use Rattle.orc_tail.proofs.Opened.{read_within}
@@ -84,12 +84,12 @@ returns-clause-limits g c =
     read_within _ _ _ c.in_ok-postscript.field-0.postscript c.in_ok-postscript.ensures.few c.in_ok-footer.footer c.in_ok-footer.schema c.in_ok-metadata.metadata
     (c.in_ok-file_stats.file_stats, c.in_ok-file_stats.stripe_stats) c.in_ok-footer.ensures.found c.in_ok-metadata.ensures.found c.in_ok-file_stats.ensures.found
 
-pub returns-in_err-file_stats-clause-unfailed : goal.returns-in_err-file_stats-clause-unfailed
-returns-in_err-file_stats-clause-unfailed g c =
+pub returns-in_err-file_stats-clause-named : goal.returns-in_err-file_stats-clause-named
+returns-in_err-file_stats-clause-named g c =
     let p = err_from_is_err_and c.from_residual-in_err-file_stats.result c.from_residual-in_err-file_stats.ensures.1 in
-    rw (p.1, p.2) (inr (c.in_err-file_stats.ensures.named, c.in_ok-text-2.ensures.source.kept ∙ (c.in_ok-text.ensures.source.kept ∙ c.in_ok-postscript.ensures.source.kept)))
+    rw (p.1, p.2) (inr c.in_err-file_stats.ensures.named)
 
-pub returns-in_err-metadata-clause-unfailed : goal.returns-in_err-metadata-clause-unfailed
-returns-in_err-metadata-clause-unfailed g c =
+pub returns-in_err-metadata-clause-named : goal.returns-in_err-metadata-clause-named
+returns-in_err-metadata-clause-named g c =
     let p = err_from_is_err_and c.from_residual-in_err-metadata.result c.from_residual-in_err-metadata.ensures.1 in
-    rw (p.1, p.2) (inr (c.in_err-metadata.ensures.named, c.in_ok-text-2.ensures.source.kept ∙ (c.in_ok-text.ensures.source.kept ∙ c.in_ok-postscript.ensures.source.kept)))
+    rw (p.1, p.2) (inr c.in_err-metadata.ensures.named)
