@@ -5,7 +5,7 @@ use orc_cli_args::{
     Asked, Refusal, Request, read_words, request_of, unread_number, wants_progress, words_of,
 };
 use orc_cli_commands::{
-    Ending, Meter, Outcome, SystemPlace, answer_to, flush_buffer, meter_of, with_buffer,
+    Ending, Meter, Outcome, Repeated, SystemPlace, answer_to, flush_buffer, meter_of, with_buffer,
     with_output,
 };
 use std::fs::File;
@@ -56,14 +56,14 @@ fn run<R: Env + Files<File = File> + AllocGlobal + Print + Eprint + Clock>(
     }
 }
 
-/// Carries out one request over the files of the system, and prints to standard output. The meter's line is wiped
-/// before the output is flushed.
+/// Carries out one request over the files of the system, and prints to standard output, whose interrupted writes are
+/// made again. The meter's line is wiped before the output is flushed.
 fn answer<R: Files<File = File> + AllocGlobal + Print + Eprint + Clock>(
     rt: &R,
     request: Request<'_, '_>,
     meter: &Meter<'_, R>,
 ) -> Result<Outcome, Ending> {
-    let mut out = with_buffer(rt.alloc(), io::writer(rt))?;
+    let mut out = with_buffer(rt.alloc(), Repeated::new(io::writer(rt)))?;
     let answered = answer_to(
         rt.alloc(),
         &mut SystemPlace::new(rt, meter),

@@ -3,6 +3,7 @@ ghost use Rattle.std.specs.Prelude.{◌≡◌, OnOk, true, false};
 ghost use Rattle.std.specs.Io.{WritesAtMost};
 ghost use Rattle.std.specs.Io.KnownBytes.{Keeps};
 
+use orc_cli_output::write_again;
 use std::fs::File;
 use std::io::{self, Write};
 
@@ -21,7 +22,8 @@ pub trait Durable: Write {
         ensures bytes { OnOk result (Keeps (Self.contents self.old) (Self.contents self.new)) };
 }
 
-/// A file of the system, and whether the system has put all that was written to it on the device.
+/// A file of the system, and whether the system has put all that was written to it on the device. A write that is
+/// interrupted is made again.
 #[derive(Drop)]
 pub struct SystemFile {
     file: File,
@@ -50,7 +52,7 @@ impl Write for SystemFile {
         ensures unsynced { self.new.synced ≡ false }
     {
         self.synced = false;
-        self.file.write(bytes)
+        write_again(&mut self.file, bytes)
     }
 
     fn flush(&mut self) -> io::Result<()> {

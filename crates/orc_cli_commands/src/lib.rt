@@ -28,7 +28,7 @@ pub use meter::{Meter, is_due, meter_of};
 pub use new_file::NewFile;
 pub use orc_cli_check::check_to;
 pub use orc_cli_ints::ints_to;
-pub use orc_cli_output::CliFault;
+pub use orc_cli_output::{CliFault, Repeated};
 pub use orc_cli_rows::rows_to;
 pub use orc_cli_show::show_to;
 pub use orc_cli_write::{LineFault, LineReader, StdLines, write_from, write_lines};

@@ -19,6 +19,12 @@ appends_kept (Some a) None new x p q = absurd p
 appends_kept (Some a) (Some b) None x p q = absurd q
 appends_kept (Some a) (Some b) (Some c) x p q = q ∙ p
 
+pub kept_appends : (old mid new : Option (List ℕ)) (x : List ℕ) → Keeps old mid → Appends mid new x → Appends old new x
+kept_appends None mid new x p q = tt
+kept_appends (Some a) None new x p q = absurd p
+kept_appends (Some a) (Some b) None x p q = absurd q
+kept_appends (Some a) (Some b) (Some c) x p q = q ∙ ap (λ (t : List ℕ). t ++ x) p
+
 -- part of the rest is part of the whole
 pub part_after : (old mid new : Option (List ℕ)) (at : ℕ) (bytes : List ℕ) → at < length bytes → Appends old mid (take at bytes) → Keeps mid new → AppendsPart old new bytes
 part_after old mid new at bytes lt p q = (at, lt, appends_kept old mid new (take at bytes) p q)

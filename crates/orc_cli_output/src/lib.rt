@@ -4,7 +4,9 @@
 mod fault;
 mod number;
 mod output;
+mod repeated;
 
 pub use fault::CliFault;
 pub use number::number_of;
 pub use output::write_out;
+pub use repeated::{Repeated, write_again};

@@ -1,4 +1,5 @@
-//! Outputs of which one call is refused. It isn't made again, and none is made behind it.
+//! Outputs of which one call is refused. It isn't made again, and none is made behind it. A `Repeated` makes those again
+//! that are interrupted.
 
 use crate::assertions::{check_bytes, check_same, demand};
 use crate::devices::{CountedOut, Refused, SeenSource};
@@ -7,12 +8,13 @@ use crate::reading::join;
 use crate::three_stripes::{
     Command, FOUND, FROM_SECOND_STRIPE, ROWS, SHOWN, THREE_STRIPES, carry_out,
 };
-use orc_cli_commands::{CliFault, MergeFault, StdLines, ints_to, write_lines};
+use orc_cli_commands::{CliFault, MergeFault, Repeated, StdLines, ints_to, write_lines};
 use orc_file::{FileFault, Sink, StdSink};
 use orc_rle::{Rle, Sign};
 use orc_stripe::Options;
 use std::alloc::Global;
 use std::cell::Cell;
+use std::io::Write;
 use std::process::Abort;
 
 /// What goes to the output.
@@ -158,4 +160,23 @@ fn refused_calls(rt: HostRuntime) {
     }
     check_work(&rt, rt.alloc(), Work::Written, &SIX_SEVENS);
     check_work(&rt, rt.alloc(), Work::Joined, &SIX_SEVENS);
+}
+
+/// How many of three bytes are taken behind a `Repeated`, where the first call is refused; none if that is told.
+fn taken_again(refused: Refused, sent: &Cell<usize>) -> Option<usize> {
+    let mut out = Repeated::new(CountedOut::new(1, refused, sent));
+    out.write(b"ORC").ok()
+}
+
+#[test]
+fn interrupted_writes_are_made_again(rt: HostRuntime) {
+    let sent = Cell::new(0);
+    for (refused, wanted) in [
+        (Refused::Interrupted, Some(3)),
+        (Refused::Full, None),
+        (Refused::TakesNothing, Some(0)),
+    ] {
+        check_same(&rt, "taken", &taken_again(refused, &sent), &wanted);
+        check_same(&rt, "sent", &sent.get(), &wanted.unwrap_or(0));
+    }
 }
