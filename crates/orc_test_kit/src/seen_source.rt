@@ -3,11 +3,14 @@ ghost use Rattle.std.specs.Prelude.{Some, length};
 
 use orc_io::{SliceSource, Source, SourceFault};
 
-/// Bytes in memory, with the place and the length of each of the first eight reads.
+/// How many ranges a source keeps.
+const KEPT: usize = 16;
+
+/// Bytes in memory, with the number of reads, and the place and the length of each of the first sixteen.
 #[derive(Drop)]
 pub struct SeenSource<'a> {
     bytes: SliceSource<'a>,
-    ranges: [(u64, u64); 8],
+    ranges: [(u64, u64); KEPT],
     reads: usize,
 }
 
@@ -15,14 +18,19 @@ impl<'a> SeenSource<'a> {
     pub fn new(bytes: &'a [u8]) -> SeenSource<'a> {
         SeenSource {
             bytes: SliceSource::new(bytes),
-            ranges: [(0, 0); 8],
+            ranges: [(0, 0); KEPT],
             reads: 0,
         }
     }
 
-    /// The ranges that were read, in their order.
+    /// The ranges of the first sixteen reads, in their order.
     pub fn ranges(&self) -> &[(u64, u64)] {
-        &self.ranges[..self.reads.min(8)]
+        &self.ranges[..self.reads.min(KEPT)]
+    }
+
+    /// The number of all reads.
+    pub fn reads(&self) -> usize {
+        self.reads
     }
 }
 

@@ -19,9 +19,9 @@ fn read_once(alloc: Global, bytes: &[u8], cap: u64) -> (Result<usize, FileFault>
     match open_capped(alloc, SeenSource::new(bytes), cap) {
         Ok(mut file) => {
             let rows = rows_counted(alloc, &mut file);
-            (rows, file.into_parts().1.ranges().len())
+            (rows, file.into_parts().1.reads())
         }
-        Err((fault, source)) => (Err(fault), source.ranges().len()),
+        Err((fault, source)) => (Err(fault), source.reads()),
     }
 }
 

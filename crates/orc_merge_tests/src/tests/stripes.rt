@@ -8,23 +8,25 @@ use orc_test_kit::{FailSink, FailSource, Full, SEVENS, SeenSource, TWICE};
 use std::alloc::Global;
 use std::process::Abort;
 
-/// The ranges of a file whose one stripe has 40,018 bytes: those of the tail, then full arrays and the rest.
-static RANGES: [(u64, u64); 8] = [
+/// The ranges of a file whose one stripe has 70,018 bytes: those of the tail, then full arrays and the rest.
+static RANGES: [(u64, u64); 10] = [
     (0, 3),
-    (40_122, 1),
-    (40_103, 19),
-    (40_043, 60),
-    (40_021, 22),
+    (70_122, 1),
+    (70_103, 19),
+    (70_043, 60),
+    (70_021, 22),
     (3, 16_384),
     (16_387, 16_384),
-    (32_771, 7_250),
+    (32_771, 16_384),
+    (49_155, 16_384),
+    (65_539, 4_482),
 ];
 
 /// A file with such a stripe: bytes that follow from their places, and its end.
 fn long_file(alloc: Global) -> Result<Vec<u8>, MergeFault> {
     let mut bytes = Vec::new(alloc);
     bytes.extend_from_slice(b"ORC")?;
-    for place in 3..40_003u32 {
+    for place in 3..70_003u32 {
         bytes.push((place % 251) as u8)?;
     }
     bytes.extend_from_slice(&LONG_END)?;
@@ -38,12 +40,13 @@ fn a_long_stripe(rt: HostRuntime) -> Result<(), MergeFault> {
     let mut out = VecSink::new(rt.alloc());
     merged(rt.alloc(), &mut inputs, &mut out)?;
     let [input] = &inputs;
-    demand(&rt, input.ranges() == RANGES.as_slice(), "ranges", 8);
+    demand(&rt, input.reads() == 10, "reads", 10);
+    demand(&rt, input.ranges() == RANGES.as_slice(), "ranges", 10);
     demand(
         &rt,
         out.into_vec().as_slice() == bytes.as_slice(),
         "bytes",
-        40_123,
+        70_123,
     );
     Ok(())
 }
