@@ -4,17 +4,6 @@ use std::alloc::Global;
 use std::fmt;
 use std::process::Abort;
 
-/// What a check answers, which is asked again where memory was refused once. A closure would be proved anew in
-/// each test.
-macro_rules! with_memory {
-    ($check:expr) => {
-        match $check {
-            Err(BitFault::OutOfMemory) => $check,
-            answer => answer,
-        }
-    };
-}
-
 // An assertion that shows its values takes two seconds or more to prove where it stands, so these three stand for all.
 
 /// What was found of a case is what is wanted.
@@ -56,7 +45,7 @@ static TEXTS: [(BitFault, &'static str); 3] = [
 
 #[test]
 fn fault_texts(rt: HostRuntime) {
-    passes(&rt, with_memory!(check_texts(&rt, rt.alloc())));
+    passes(&rt, check_texts(&rt, rt.alloc()));
 }
 
 fn check_texts(rt: &impl Abort, alloc: Global) -> Result<(), BitFault> {

@@ -59,11 +59,7 @@ fn borrowed_rows_hold(alloc: Global) -> Result<bool, JsonFault> {
 #[test]
 fn borrowed_rows(rt: HostRuntime) {
     let alloc = rt.alloc();
-    demand_of(
-        &rt,
-        with_memory!(borrowed_rows_hold(alloc)),
-        &"a borrowed row",
-    );
+    demand_of(&rt, borrowed_rows_hold(alloc), &"a borrowed row");
 }
 
 /// What stands before the rows.
@@ -83,7 +79,7 @@ fn names_twice(rt: HostRuntime) {
     let alloc = rt.alloc();
     demand_of(
         &rt,
-        with_memory!(refuses_twice(alloc, "struct<a:int,a:int>")),
+        refuses_twice(alloc, "struct<a:int,a:int>"),
         &"a name twice",
     );
 }
@@ -146,7 +142,7 @@ fn reads_on(alloc: Global) -> Result<bool, JsonFault> {
 #[test]
 fn texts_one_after_another(rt: HostRuntime) {
     let alloc = rt.alloc();
-    demand_of(&rt, with_memory!(reads_on(alloc)), &"texts");
+    demand_of(&rt, reads_on(alloc), &"texts");
 }
 
 /// A schema, a text, and the row that the text spells as it is printed; or the text alone, where it spells none. Each row is read
@@ -236,11 +232,7 @@ fn rows_over_others(rt: HostRuntime) {
     let alloc = rt.alloc();
     let mut reader = RowReader::new(alloc);
     for old in ROWS.lines() {
-        demand_of(
-            &rt,
-            with_memory!(are_read_over(alloc, &mut reader, old)),
-            &old,
-        );
+        demand_of(&rt, are_read_over(alloc, &mut reader, old), &old);
     }
 }
 
@@ -269,7 +261,7 @@ fn one_row_over_and_over(rt: HostRuntime) {
     let mut reader = RowReader::new(alloc);
     demand_of(
         &rt,
-        with_memory!(are_read_in_turn(alloc, &mut reader, 3)),
+        are_read_in_turn(alloc, &mut reader, 3),
         &"rows in turn",
     );
 }

@@ -10,26 +10,9 @@
 #![tactic(auto)]
 
 #[cfg(test)]
-mod bits;
-#[cfg(test)]
-mod messages;
-#[cfg(test)]
-mod runs;
-
-/// What a check answers, which is asked again where memory was refused once. Its answer is then demanded. A closure
-/// would be proved anew in each test.
-#[cfg(test)]
-macro_rules! with_memory {
-    ($check:expr) => {
-        match $check {
-            Err(_) => $check,
-            answer => answer,
-        }
-    };
-}
-
-#[cfg(test)]
 mod assertions;
+#[cfg(test)]
+mod bits;
 #[cfg(test)]
 mod column_walk;
 #[cfg(test)]
@@ -37,7 +20,11 @@ mod entering;
 #[cfg(test)]
 mod json;
 #[cfg(test)]
+mod messages;
+#[cfg(test)]
 mod row_batch;
+#[cfg(test)]
+mod runs;
 #[cfg(test)]
 mod stats;
 #[cfg(test)]

@@ -10,22 +10,15 @@ mod fields;
 mod numbers;
 mod statistics;
 
-/// The message of the text. A call that answers want of memory is made once more, and its answer is
-/// then demanded.
+/// The message of the text.
 fn read_message<M: Message>(alloc: Global, text: &[u8]) -> Result<M, WireFault> {
-    match M::read(alloc, text) {
-        Err(WireFault::OutOfMemory) => M::read(alloc, text),
-        answer => answer,
-    }
+    M::read(alloc, text)
 }
 
-/// The canonical text of the message, which is put twice where memory is refused once.
+/// The canonical text of the message.
 fn text_of<M: Message>(alloc: Global, message: &M) -> Result<Vec<u8>, WireFault> {
     let mut out = Vec::new(alloc);
-    match message.put(&mut out) {
-        Err(WireFault::OutOfMemory) => message.put(&mut out)?,
-        answer => answer?,
-    }
+    message.put(&mut out)?;
     Ok(out)
 }
 

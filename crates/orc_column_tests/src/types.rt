@@ -142,9 +142,9 @@ fn roots_hold(alloc: Global) -> Result<bool, JsonFault> {
 fn fitting(rt: HostRuntime) {
     let alloc = rt.alloc();
     for line in FITTING.lines() {
-        demand_of(&rt, with_memory!(line_fits(alloc, line)), &line);
+        demand_of(&rt, line_fits(alloc, line), &line);
     }
-    demand_of(&rt, with_memory!(roots_hold(alloc)), &"roots");
+    demand_of(&rt, roots_hold(alloc), &"roots");
 }
 
 /// In each line the type of a field, values of it, a column of the schema of that field, its type, and its cells: of a
@@ -282,9 +282,9 @@ fn null_rows_hold(alloc: Global) -> Result<bool, JsonFault> {
 fn cells_of_columns(rt: HostRuntime) {
     let alloc = rt.alloc();
     for line in CELLS.lines() {
-        demand_of(&rt, with_memory!(line_has_cells(alloc, line)), &line);
+        demand_of(&rt, line_has_cells(alloc, line), &line);
     }
-    demand_of(&rt, with_memory!(null_rows_hold(alloc)), &"null rows");
+    demand_of(&rt, null_rows_hold(alloc), &"null rows");
 }
 
 /// A row of borrowed values, a list and a map.
@@ -309,5 +309,5 @@ fn copies_hold(alloc: Global) -> Result<bool, AllocError> {
 #[test]
 fn copies(rt: HostRuntime) {
     let alloc = rt.alloc();
-    demand_of(&rt, with_memory!(copies_hold(alloc)), &"a borrowed row");
+    demand_of(&rt, copies_hold(alloc), &"a borrowed row");
 }

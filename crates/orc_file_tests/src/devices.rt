@@ -28,7 +28,7 @@ static RANGES: [(u64, u64, &[u8]); 8] = [
 ];
 
 /// `read_range`, where the range lies within the source.
-fn range_once<S: Source>(
+fn range<S: Source>(
     alloc: Global,
     source: &mut S,
     at: u64,
@@ -38,19 +38,6 @@ fn range_once<S: Source>(
         return Err(RangeFault::SourceFailed);
     }
     read_range(alloc, source, at, len)
-}
-
-/// The same once there is memory: what wanted some is asked again.
-fn range<S: Source>(
-    alloc: Global,
-    source: &mut S,
-    at: u64,
-    len: u64,
-) -> Result<Vec<u8>, RangeFault> {
-    match range_once(alloc, source, at, len) {
-        Err(RangeFault::OutOfMemory) => range_once(alloc, source, at, len),
-        answer => answer,
-    }
 }
 
 /// Whether that range is read, and has these bytes.
@@ -86,24 +73,16 @@ fn sent<W: Sink>(sink: &mut W, bytes: &[u8]) -> Result<(), usize> {
     write_all(sink, bytes)
 }
 
-/// `write_all` to a vector once there is memory: what is left is written by a second call.
-fn gather<W: Sink>(sink: &mut W, bytes: &[u8]) -> Result<(), usize> {
-    match sent(sink, bytes) {
-        Err(taken) if taken < bytes.len() => sent(sink, &bytes[taken..]),
-        answer => answer,
-    }
-}
-
 #[test]
 fn bytes_are_gathered(rt: HostRuntime) {
     let mut sink = VecSink::new(rt.alloc());
     for piece in [&BYTES[..3], &[], &BYTES[3..4], &BYTES[4..]] {
-        let answer = gather(&mut sink, piece);
+        let answer = sent(&mut sink, piece);
         check_same(&rt, &answer, &Ok(()), "a piece of", &[piece.len() as u64]);
     }
     check_list(&rt, &sink.into_vec(), &BYTES, "pieces", &[]);
     let mut sink = VecSink::new(rt.alloc());
-    let answer = gather(&mut &mut sink, &BYTES);
+    let answer = sent(&mut &mut sink, &BYTES);
     check_same(&rt, &answer, &Ok(()), "all at once", &[]);
     check_list(&rt, &sink.into_vec(), &BYTES, "all at once", &[]);
 }
@@ -117,19 +96,6 @@ fn answer_at(room: usize) -> Result<(), usize> {
         Err(room)
     } else {
         Ok(())
-    }
-}
-
-/// A sink once there is memory for it.
-fn full_sink(
-    alloc: Global,
-    a_call: usize,
-    room: usize,
-    full: Full,
-) -> Result<FailSink, AllocError> {
-    match FailSink::new(alloc, a_call, room, full) {
-        Err(AllocError) => FailSink::new(alloc, a_call, room, full),
-        made => made,
     }
 }
 
@@ -159,7 +125,7 @@ fn check_writer(
     room: usize,
     full: Full,
 ) -> Result<(), AllocError> {
-    let mut out = Narrow(full_sink(alloc, a_call, room, full)?);
+    let mut out = Narrow(FailSink::new(alloc, a_call, room, full)?);
     let answer = sent(&mut StdSink::new(&mut out), &BYTES);
     check_taken(rt, answer, out.0.bytes(), a_call, room);
     Ok(())
@@ -183,14 +149,6 @@ fn path_of(rt: &HostRuntime) -> io::Result<PathBuf> {
     let name = format!(in rt.alloc(); "orc_io-{}", process::id(rt.process()))?;
     path.push(name.as_str())?;
     Ok(path)
-}
-
-/// The same once there is memory for it.
-fn made_path(rt: &HostRuntime) -> io::Result<PathBuf> {
-    match path_of(rt) {
-        Err(_) => path_of(rt),
-        path => path,
-    }
 }
 
 /// A source of the file of that path.
@@ -294,7 +252,7 @@ fn change_file(
 
 #[test]
 fn files_that_change_are_refused(rt: HostRuntime) -> io::Result<()> {
-    let path = made_path(&rt)?;
+    let path = path_of(&rt)?;
     for is_replaced in [false, true] {
         change_file(&rt, &rt, &path, is_replaced)?;
     }

@@ -139,11 +139,7 @@ fn check_loads(rt: &impl Abort, alloc: Global) -> Result<(), FileFault> {
 
 #[test]
 fn stripes_are_loaded(rt: HostRuntime) {
-    let answer = match check_loads(&rt, rt.alloc()) {
-        Err(FileFault::OutOfMemory) => check_loads(&rt, rt.alloc()),
-        answer => answer,
-    };
-    passes(&rt, answer);
+    passes(&rt, check_loads(&rt, rt.alloc()));
 }
 
 /// Why bytes are no stripe 2, by its rows.
@@ -178,12 +174,7 @@ fn refused(alloc: Global, len: usize) -> Result<(Option<FileFault>, Option<FileF
 fn bytes_that_are_no_stripe(rt: HostRuntime) {
     let wanted = Some(FileFault::Stripe(2, StripeFault::BadDirectory));
     for len in [0usize, 18, 20] {
-        let memory = Some(FileFault::OutOfMemory);
-        let answer = match refused(rt.alloc(), len) {
-            Err(FileFault::OutOfMemory) => refused(rt.alloc(), len),
-            Ok((rows, view)) if rows == memory || view == memory => refused(rt.alloc(), len),
-            answer => answer,
-        };
+        let answer = refused(rt.alloc(), len);
         check_same(&rt, &answer, &Ok((wanted, wanted)), "bytes", &[len as u64]);
     }
 }

@@ -37,9 +37,6 @@ fn give_numbers(alloc: Global, bytes: &[u8], wanted: &[i64]) -> Result<bool, Fil
 #[test]
 fn rows_come_back(rt: HostRuntime) {
     let wanted = [7, 7, 7, 8, 8, 8, 9, 9, 9];
-    let found = match give_numbers(rt.alloc(), &UPWARDS, &wanted) {
-        Err(FileFault::OutOfMemory) => give_numbers(rt.alloc(), &UPWARDS, &wanted),
-        found => found,
-    };
+    let found = give_numbers(rt.alloc(), &UPWARDS, &wanted);
     check_same(&rt, &found, &Ok(true), "rows", &[]);
 }

@@ -64,10 +64,7 @@ fn has_rows(alloc: Global, bytes: &[u8], wanted: &[i64]) -> Result<bool, FileFau
 #[test]
 fn rows_are_read(rt: HostRuntime) {
     for (i, (bytes, wanted)) in FILES.iter().enumerate() {
-        let answer = match has_rows(rt.alloc(), bytes, wanted) {
-            Err(FileFault::OutOfMemory) => has_rows(rt.alloc(), bytes, wanted),
-            answer => answer,
-        };
+        let answer = has_rows(rt.alloc(), bytes, wanted);
         check_same(&rt, &answer, &Ok(true), "file", &[i as u64]);
     }
 }
@@ -100,10 +97,7 @@ fn refused_twice(alloc: Global) -> Result<(FileFault, FileFault), FileFault> {
 
 #[test]
 fn a_bad_stripe_is_named_each_time(rt: HostRuntime) {
-    let answer = match refused_twice(rt.alloc()) {
-        Err(FileFault::OutOfMemory) => refused_twice(rt.alloc()),
-        answer => answer,
-    };
+    let answer = refused_twice(rt.alloc());
     let why = StripeFault::Run(1, StreamKind::Data, RunFault::TooMany(0));
     let wanted = FileFault::Stripe(1, why);
     check_same(&rt, &answer, &Ok((wanted, wanted)), "refused", &[]);
@@ -127,14 +121,10 @@ fn read_twice(alloc: Global, read: u64) -> Result<(FileFault, bool), FileFault> 
     ask_twice(alloc, &mut file)
 }
 
-/// What wants memory on the way is read anew, so that the same read fails.
 #[test]
 fn rows_are_read_after_a_failure(rt: HostRuntime) {
     for read in FAILING {
-        let answer = match read_twice(rt.alloc(), read) {
-            Err(FileFault::OutOfMemory) => read_twice(rt.alloc(), read),
-            answer => answer,
-        };
+        let answer = read_twice(rt.alloc(), read);
         check_same(
             &rt,
             &answer,

@@ -10,16 +10,9 @@ use orc_file::{FileFault, SliceSource, Tail, read_tail};
 use orc_test_kit::TWICE;
 use std::alloc::Global;
 
-fn tail_once(alloc: Global, bytes: &[u8]) -> Result<Tail, FileFault> {
-    read_tail(alloc, &mut SliceSource::new(bytes))
-}
-
-/// The tail of bytes once there is memory for it: what wanted some is asked again.
+/// The tail of bytes.
 fn tail_of(alloc: Global, bytes: &[u8]) -> Result<Tail, FileFault> {
-    match tail_once(alloc, bytes) {
-        Err(FileFault::OutOfMemory) => tail_once(alloc, bytes),
-        answer => answer,
-    }
+    read_tail(alloc, &mut SliceSource::new(bytes))
 }
 
 /// Where the first stripe has a byte less, a gap is behind it.

@@ -195,10 +195,7 @@ fn refused_between(alloc: Global) -> Result<Vec<u8>, FileFault> {
 
 #[test]
 fn a_row_of_another_shape(rt: HostRuntime) -> Result<(), FileFault> {
-    let bytes = match refused_between(rt.alloc()) {
-        Err(FileFault::OutOfMemory | FileFault::WriteFailed) => refused_between(rt.alloc())?,
-        answer => answer?,
-    };
+    let bytes = refused_between(rt.alloc())?;
     check_list(&rt, &bytes, &SEVENS, "rows of another shape", &[]);
     Ok(())
 }
@@ -272,18 +269,10 @@ fn of_eight(alloc: Global, over: bool) -> Result<Vec<u8>, FileFault> {
     }
 }
 
-/// That file, with memory for it.
-fn of_eight_again(alloc: Global, over: bool) -> Result<Vec<u8>, FileFault> {
-    match of_eight(alloc, over) {
-        Err(FileFault::OutOfMemory | FileFault::WriteFailed) => of_eight(alloc, over),
-        answer => answer,
-    }
-}
-
 #[test]
 fn the_row_given_away_last_is_spare(rt: HostRuntime) -> Result<(), FileFault> {
-    let plain = of_eight_again(rt.alloc(), false)?;
-    let over = of_eight_again(rt.alloc(), true)?;
+    let plain = of_eight(rt.alloc(), false)?;
+    let over = of_eight(rt.alloc(), true)?;
     check_list(&rt, &over, &plain, "spare rows", &[]);
     Ok(())
 }
@@ -294,12 +283,9 @@ static TEXTS: [(FileFault, &str); 2] = [
     (FileFault::Failed, "file 17 Failed"),
 ];
 
-/// The text of a fault once there is memory for it.
+/// The text of a fault.
 fn text_of(alloc: Global, fault: FileFault) -> Result<String, FileFault> {
-    match format!(in alloc; "{fault}") {
-        Ok(text) => Ok(text),
-        Err(_) => Ok(format!(in alloc; "{fault}")?),
-    }
+    Ok(format!(in alloc; "{fault}")?)
 }
 
 #[test]

@@ -4,18 +4,6 @@
 //! What no file shows that the program reads or writes stands here; the rest stands in vectors/ and scripts/cases/.
 #![tactic(auto)]
 
-/// What a check answers, which is asked again where memory was refused once. Its answer is then demanded. A closure
-/// would be proved anew in each test.
-#[cfg(test)]
-macro_rules! with_memory {
-    ($check:expr) => {
-        match $check {
-            Err(_) => $check,
-            answer => answer,
-        }
-    };
-}
-
 #[cfg(test)]
 mod assertions;
 #[cfg(test)]

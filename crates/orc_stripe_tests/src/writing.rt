@@ -101,7 +101,7 @@ fn check_written(rt: &impl Abort, alloc: Global) -> Result<(), StripeFault> {
 
 #[test]
 fn stripes_written(rt: HostRuntime) {
-    passes(&rt, with_memory!(check_written(&rt, rt.alloc())));
+    passes(&rt, check_written(&rt, rt.alloc()));
 }
 
 /// A stride, the number of rows of a stripe, and whether there are such options.

@@ -1,5 +1,5 @@
-//! What test crates share: the bytes of whole files, and devices that fail or keep what was read; a stripe's rows as lines, the
-//! calls that stripes are read by without their contracts, and checks that are asked again where memory was refused.
+//! What test crates share: the bytes of whole files, and devices that fail or keep what was read; a stripe's rows as lines, and
+//! the calls that stripes are read by without their contracts.
 #![tactic(auto)]
 
 mod calls;
@@ -14,6 +14,6 @@ pub use calls::{cursor_of, next_row, next_text, rest_of, rows_of, schema_of};
 pub use fail_sink::{FailSink, Full};
 pub use fail_source::FailSource;
 pub use files::{EMPTY, LISTS_BEFORE, NAMED, SEVENS, TWICE, UPWARDS};
-pub use lines::{line_of, lines_at_once, lines_one_by_one, lines_straight, with_memory};
+pub use lines::{line_of, lines_at_once, lines_one_by_one, lines_straight};
 pub use narrow::Narrow;
 pub use seen_source::SeenSource;

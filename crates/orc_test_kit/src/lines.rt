@@ -9,16 +9,6 @@ use orc_values::Row;
 use orc_wire::StripeInfo;
 use std::alloc::Global;
 
-/// What a check answers, which is asked again where memory was refused once.
-pub fn with_memory<F: Fn() -> Result<(), StripeFault>>(check: F) -> Result<(), StripeFault>
-    requires { F.IsAlwaysCallable check }
-{
-    match check() {
-        Err(StripeFault::OutOfMemory) => check(),
-        answer => answer,
-    }
-}
-
 /// The line that a row prints as.
 pub fn line_of(alloc: Global, schema: &Schema, row: &Row<'_>) -> Result<String, StripeFault> {
     if !fits(schema, row) {

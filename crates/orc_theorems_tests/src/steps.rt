@@ -22,17 +22,6 @@ fn in_steps<'a>(
     left: &[&'a [u8]],
     right: &[&'a [u8]],
 ) -> Result<Vec<u8>, MergeFault> {
-    match in_steps_once(alloc, left, right) {
-        Err(MergeFault::OutOfMemory | MergeFault::WriteFailed) => in_steps_once(alloc, left, right),
-        done => done,
-    }
-}
-
-fn in_steps_once<'a>(
-    alloc: Global,
-    left: &[&'a [u8]],
-    right: &[&'a [u8]],
-) -> Result<Vec<u8>, MergeFault> {
     let mut lefts = sources(alloc, left)?;
     let mut rights = sources(alloc, right)?;
     let mut out = VecSink::new(alloc);

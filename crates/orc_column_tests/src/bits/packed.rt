@@ -191,7 +191,7 @@ fn fill(places: &mut [u64], width: u32)
 
 #[test]
 fn packed_and_unpacked(rt: HostRuntime) {
-    passes(&rt, with_memory!(check_widths(&rt, rt.alloc())));
+    passes(&rt, check_widths(&rt, rt.alloc()));
 }
 
 /// Each width, with 0 to 66 numbers.

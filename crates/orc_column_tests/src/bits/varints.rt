@@ -68,7 +68,7 @@ fn zigzag_of_the_ends_and_the_middle(rt: HostRuntime) {
 
 #[test]
 fn shortest_varints_both_ways(rt: HostRuntime) {
-    passes(&rt, with_memory!(check_shortest(&rt, rt.alloc())));
+    passes(&rt, check_shortest(&rt, rt.alloc()));
 }
 
 fn check_shortest(rt: &impl Abort, alloc: Global) -> Result<(), BitFault> {

@@ -32,12 +32,9 @@ static FAULTS: [(&'static [u8], WireFault); 5] = [
 /// Numbers that no field has.
 static NO_NUMBERS: [u32; 3] = [0, 1 << 29, u32::MAX];
 
-/// Puts a field, once more where memory is refused.
+/// Puts a field.
 fn put_field(writer: &mut FieldWriter<'_>, number: u32, value: Value<'_>) -> Result<(), WireFault> {
-    match writer.put(number, value) {
-        Err(WireFault::OutOfMemory) => writer.put(number, value),
-        answer => answer,
-    }
+    writer.put(number, value)
 }
 
 /// Puts each of the fields, and none with a number that no field has.

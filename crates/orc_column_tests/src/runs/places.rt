@@ -123,7 +123,7 @@ fn check_places(rt: &impl Abort, alloc: Global) -> Result<(), RunFault> {
 
 #[test]
 fn places_are_sought(rt: HostRuntime) {
-    passes(&rt, with_memory!(check_places(&rt, rt.alloc())));
+    passes(&rt, check_places(&rt, rt.alloc()));
 }
 
 /// Whether there are no places, for this fault. Want of memory is handed on.
@@ -156,5 +156,5 @@ fn check_short(rt: &impl Abort, alloc: Global) -> Result<(), RunFault> {
 
 #[test]
 fn short_streams(rt: HostRuntime) {
-    passes(&rt, with_memory!(check_short(&rt, rt.alloc())));
+    passes(&rt, check_short(&rt, rt.alloc()));
 }

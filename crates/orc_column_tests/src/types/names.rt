@@ -52,7 +52,7 @@ fn line_has_text(alloc: Global, line: &str) -> Result<bool, TypeFault> {
 fn names_have_texts(rt: HostRuntime) {
     let alloc = rt.alloc();
     for line in NAMES.lines() {
-        demand_of(&rt, with_memory!(line_has_text(alloc, line)), &line);
+        demand_of(&rt, line_has_text(alloc, line), &line);
     }
 }
 
@@ -87,6 +87,6 @@ fn line_is_wrong(alloc: Global, line: &str) -> Result<bool, TypeFault> {
 fn wrong_names_are_refused(rt: HostRuntime) {
     let alloc = rt.alloc();
     for line in WRONG.lines() {
-        demand_of(&rt, with_memory!(line_is_wrong(alloc, line)), &line);
+        demand_of(&rt, line_is_wrong(alloc, line), &line);
     }
 }

@@ -43,13 +43,13 @@ fn line_is_printed(alloc: Global, case: &str) -> Result<bool, JsonFault> {
 fn rows_are_printed(rt: HostRuntime) {
     let alloc = rt.alloc();
     for case in PRINTED.lines() {
-        demand_of(&rt, with_memory!(line_is_printed(alloc, case)), &case);
+        demand_of(&rt, line_is_printed(alloc, case), &case);
     }
 }
 
 #[test]
 fn a_line_is_printed_again(rt: HostRuntime) {
     let alloc = rt.alloc();
-    let held = with_memory!(page_holds(alloc));
+    let held = page_holds(alloc);
     assert!(rt; matches!(held, Ok(true)));
 }

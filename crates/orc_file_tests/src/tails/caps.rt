@@ -15,25 +15,18 @@ fn rows_counted<S: Source>(alloc: Global, file: &mut OrcFile<S>) -> Result<usize
     }
 }
 
-fn read_once(alloc: Global, bytes: &[u8], cap: u64) -> (Result<usize, FileFault>, usize) {
+/// How many rows are read of a file under a cap, and how many ranges.
+pub(super) fn read_capped(
+    alloc: Global,
+    bytes: &[u8],
+    cap: u64,
+) -> (Result<usize, FileFault>, usize) {
     match open_capped(alloc, SeenSource::new(bytes), cap) {
         Ok(mut file) => {
             let rows = rows_counted(alloc, &mut file);
             (rows, file.into_parts().1.reads())
         }
         Err((fault, source)) => (Err(fault), source.reads()),
-    }
-}
-
-/// How many rows are read of a file under a cap, once there is memory for it, and how many ranges.
-pub(super) fn read_capped(
-    alloc: Global,
-    bytes: &[u8],
-    cap: u64,
-) -> (Result<usize, FileFault>, usize) {
-    match read_once(alloc, bytes, cap) {
-        (Err(FileFault::OutOfMemory), _) => read_once(alloc, bytes, cap),
-        answer => answer,
     }
 }
 
@@ -149,10 +142,6 @@ fn check_loads(rt: &impl Abort, alloc: Global, cap: u64) -> Result<(), FileFault
 #[test]
 fn a_stripe_above_the_cap_is_not_loaded(rt: HostRuntime) {
     for cap in [131, 138] {
-        let answer = match check_loads(&rt, rt.alloc(), cap) {
-            Err(FileFault::OutOfMemory) => check_loads(&rt, rt.alloc(), cap),
-            answer => answer,
-        };
-        passes(&rt, answer);
+        passes(&rt, check_loads(&rt, rt.alloc(), cap));
     }
 }

@@ -15,18 +15,11 @@ fn fault_of<S: Source + Drop>(alloc: Global, source: S) -> Option<FileFault> {
     }
 }
 
-fn read_once(alloc: Global, bytes: &[u8]) -> (Option<FileFault>, SeenSource<'_>) {
+/// The answer of `open`, and the source with what was read of it.
+fn read_seen(alloc: Global, bytes: &[u8]) -> (Option<FileFault>, SeenSource<'_>) {
     let mut source = SeenSource::new(bytes);
     let fault = fault_of(alloc, &mut source);
     (fault, source)
-}
-
-/// The answer of `open` once there is memory, and the source with what was read of it.
-fn read_seen(alloc: Global, bytes: &[u8]) -> (Option<FileFault>, SeenSource<'_>) {
-    match read_once(alloc, bytes) {
-        (Some(FileFault::OutOfMemory), _) => read_once(alloc, bytes),
-        seen => seen,
-    }
 }
 
 /// Both ends of `SEVENS`, its postscript, its footer, its metadata.
@@ -64,11 +57,7 @@ fn check_lent(rt: &impl Abort, alloc: Global) -> Result<(), FileFault> {
 
 #[test]
 fn a_source_is_lent(rt: HostRuntime) {
-    let answer = match check_lent(&rt, rt.alloc()) {
-        Err(FileFault::OutOfMemory) => check_lent(&rt, rt.alloc()),
-        answer => answer,
-    };
-    passes(&rt, answer);
+    passes(&rt, check_lent(&rt, rt.alloc()));
 }
 
 /// Why a source isn't opened, and why it isn't where it is handed back.
@@ -82,13 +71,9 @@ fn faults_of_two<S: Source + Drop>(
     }
 }
 
-/// The answers where the k-th read fails, once there is memory.
+/// The answers where the k-th read fails.
 fn answers_failing(alloc: Global, kth: u64) -> (Option<FileFault>, Option<FileFault>) {
-    match faults_of_two(alloc, FailSource::new(&SEVENS, kth)) {
-        (Some(FileFault::OutOfMemory), _) => faults_of_two(alloc, FailSource::new(&SEVENS, kth)),
-        (_, Some(FileFault::OutOfMemory)) => faults_of_two(alloc, FailSource::new(&SEVENS, kth)),
-        answers => answers,
-    }
+    faults_of_two(alloc, FailSource::new(&SEVENS, kth))
 }
 
 /// The source is handed back, and opened then.

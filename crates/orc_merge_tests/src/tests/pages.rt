@@ -43,11 +43,7 @@ fn numbers_joined(alloc: Global) -> Result<Vec<i64>, MergeFault> {
 
 #[test]
 fn numbers_are_read_of_a_joined_file(rt: HostRuntime) {
-    let answer = match numbers_joined(rt.alloc()) {
-        Err(MergeFault::OutOfMemory | MergeFault::WriteFailed) => numbers_joined(rt.alloc()),
-        done => done,
-    };
-    match answer {
+    match numbers_joined(rt.alloc()) {
         Ok(numbers) => {
             assert!(rt; numbers.as_slice() == [7, 7, 7, 7, 7, 7, 8, 8, 8, 9, 9, 9].as_slice());
         }

@@ -70,5 +70,5 @@ fn check_borrowed(rt: &impl Abort, alloc: Global) -> Result<(), StripeFault> {
 
 #[test]
 fn texts_are_borrowed(rt: HostRuntime) {
-    passes(&rt, with_memory!(check_borrowed(&rt, rt.alloc())));
+    passes(&rt, check_borrowed(&rt, rt.alloc()));
 }

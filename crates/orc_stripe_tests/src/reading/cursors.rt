@@ -157,5 +157,5 @@ fn check_all(rt: &impl Abort, alloc: Global) -> Result<(), StripeFault> {
 
 #[test]
 fn cursors(rt: HostRuntime) {
-    passes(&rt, with_memory!(check_all(&rt, rt.alloc())));
+    passes(&rt, check_all(&rt, rt.alloc()));
 }

@@ -46,5 +46,5 @@ fn check_page(rt: &impl Abort, alloc: Global) -> Result<(), StripeFault> {
 
 #[test]
 fn rows_of_the_page(rt: HostRuntime) {
-    passes(&rt, with_memory!(check_page(&rt, rt.alloc())));
+    passes(&rt, check_page(&rt, rt.alloc()));
 }
