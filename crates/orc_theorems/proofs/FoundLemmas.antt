@@ -39,9 +39,21 @@ nothing_found merged one a b out tail f g found in_a in_b w in_out f_none g_none
     (subst (λ (t : Tail). Findings out t (rows_together (x.1 ∷ y.1 ∷ [])) []) same.0 is.1) in
     one out in_out.0 in_out.1 found [] in_out.3 none
 
+-- bytes are a file of one tail and one list of rows
+abbrev pub OneFile : Type 0
+OneFile = (bytes : List ℕ) (t u : Tail) (a b : List Cell) → FileIs bytes t a → FileIs bytes u b → (t ≡ u) × (a ≡ b)
+
+-- what is found of a file without findings is nothing
+pub none_found_of : OneFile → OneList → (bytes : List ℕ) (tail : Tail) (rows : List Cell) (found : List Finding) → FileIs bytes tail rows → Findings bytes tail rows []
+    → AreFound bytes found → found ≡ []
+none_found_of file list bytes tail rows found is none are =
+    let same = file bytes are.0 tail are.1 rows are.2 is in
+    let its : Findings bytes tail rows found = subst (λ (r : List Cell). Findings bytes tail r found) same.1 (subst (λ (t : Tail). Findings bytes t are.1 found) same.0 are.3) in
+    list bytes tail rows found [] its none
+
 -- ---- checking one file
 
-only_err : {T E : Type 0} (r : Result T E) (P : T → Type 0) (Q : E → Type 0) → MatchResult r P Q → IfErr r Q
+pub only_err : {T E : Type 0} (r : Result T E) (P : T → Type 0) (Q : E → Type 0) → MatchResult r P Q → IfErr r Q
 only_err (Ok x) P Q h = tt
 only_err (Err e) P Q h = h
 

@@ -18,3 +18,5 @@ mod GroupStats
 mod StoredLemmas
 mod KeptLemmas
 mod OtherGroups
+mod RefusalLemmas
+mod CursorLemmas

@@ -21,6 +21,7 @@ use Rattle.orc_cli_rows.specs.Printed.{IsAsked, ArePrinted, RefusesPlace}
 use Rattle.orc_theorems.specs.Places.{IsPlace, rows_before}
 use Rattle.orc_theorems.specs.Inputs.{AreFound}
 use Rattle.orc_theorems.specs.BeforeGroups.{FileDiffersOnlyBefore}
+use Rattle.orc_theorems.proofs.FoundLemmas.{OneFile}
 use Rattle.orc_io.proofs.Told.{at_told}
 
 -- what the theorem says of lines
@@ -123,3 +124,37 @@ pub other_told : AloneLaw → (told : Option (List ℕ)) (bytes other : List ℕ
 other_told law told bytes other from old new found e none is h =
     let w = at_told told other (λ (b : List ℕ). (start : _) × IsAsked (Some from) start × ArePrinted b start old new) e h in
     other_from law bytes other from old new (subst (λ (fs : List Finding). AreFound bytes fs) none is) w.0 w.1 w.2
+
+-- what the theorem says of why it is refused
+abbrev pub AloneOnlyLaw : Type 0
+AloneOnlyLaw = (bytes other : List ℕ) (tail : Tail) (rows : List Cell) (stripe group : ℕ) (old new : Option (List ℕ)) (fault : CliFault) → FileIs bytes tail rows → Findings bytes tail rows []
+    → FileDiffersOnlyBefore bytes tail stripe group other → IsPlace tail stripe group → HaveJson tail.schema rows → EndsFrom other tail stripe group old new fault → IsOutsideFile fault
+
+-- the place that a text names is one of the file's, and the other file differs from it only before this place
+abbrev pub ArePlacesBefore : List ℕ → List ℕ → Bor (List ℕ) → Tail → Type 0
+ArePlacesBefore bytes other from tail = (n g : ℕ) → IsStartText from.now n g → IsPlace tail n g × FileDiffersOnlyBefore bytes tail n g other
+
+other_refuses : AloneOnlyLaw → OneFile → (bytes other : List ℕ) (from : Bor (List ℕ)) (old new : Option (List ℕ)) (fault : CliFault) (tail : Tail) (rows : List Cell) (stripe group : ℕ) → AreFound bytes []
+    → FileIs bytes tail rows → HaveJson tail.schema rows → IsTail other tail → IsStartText from.now stripe group → ArePlacesBefore bytes other from tail
+    → RefusesPlace other (Some from) old new fault → IsOutsideFile fault
+other_refuses law one bytes other from old new fault tail rows stripe group none is have opens asked places (inl (unasked, kept)) =
+    absurd (unasked.1 (Some (record { stripe = stripe; group = group })) asked)
+other_refuses law one bytes other from old new fault tail rows stripe group none is have opens asked places (inr (None, named, refused)) = absurd named
+other_refuses law one bytes other from old new fault tail rows stripe group none is have opens asked places (inr (Some start, named, inl (inl bad, kept))) =
+    absurd ((tail_tests other).none tail bad.0 bad.2 opens)
+other_refuses law one bytes other from old new fault tail rows stripe group none is have opens asked places (inr (Some start, named, inl (inr source, kept))) = inr source
+other_refuses law one bytes other from old new fault tail rows stripe group none is have opens asked places (inr (Some start, named, inr (t, opened, ends))) =
+    let its : t ≡ tail = (tail_tests other).one t tail opened opens in
+    let same = one bytes none.0 tail none.1 rows none.2 is in
+    let found : Findings bytes tail rows [] = subst (λ (r : List Cell). Findings bytes tail r []) same.1 (subst (λ (u : Tail). Findings bytes u none.1 []) same.0 none.3) in
+    let place = places start.stripe start.group named in
+    law bytes other tail rows start.stripe start.group old new fault is found place.1 place.0 have
+    (subst (λ (u : Tail). EndsFrom other u start.stripe start.group old new fault) its ends)
+
+pub other_refused : AloneOnlyLaw → OneFile → (told : Option (List ℕ)) (bytes other : List ℕ) (from : Bor (List ℕ)) (old new : Option (List ℕ)) (fault : CliFault) (found : List Finding) → told ≡ Some other
+    → found ≡ [] → AreFound bytes found → IfSome told (λ b. RefusesPlace b (Some from) old new fault)
+    → (tail : Tail) (rows : List Cell) (stripe group : ℕ) → FileIs bytes tail rows → HaveJson tail.schema rows → IsTail other tail → IsStartText from.now stripe group
+    → ArePlacesBefore bytes other from tail → IsOutsideFile fault
+other_refused law one told bytes other from old new fault found e none are h tail rows stripe group is have opens asked places =
+    other_refuses law one bytes other from old new fault tail rows stripe group (subst (λ (fs : List Finding). AreFound bytes fs) none are) is have opens asked places
+    (at_told told other (λ (b : List ℕ). RefusesPlace b (Some from) old new fault) e h)

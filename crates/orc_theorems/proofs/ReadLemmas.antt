@@ -6,6 +6,7 @@ use Rattle.orc_values.specs.Shapes.{Shape}
 use Rattle.orc_row_batch.specs.declared.options.Options.{Options}
 use Rattle.orc_file_reader.specs.FileRows.{FileIs}
 use Rattle.orc_file_writer.specs.Writing.{WroteWholeFile, IsSomeFile, IsCutOff}
+use Rattle.orc_tail.specs.Tails.{IsTail}
 use Rattle.orc_tail.specs.declared.tail.Tail.{Tail}
 use Rattle.orc_check.specs.Findings.{Findings}
 use Rattle.orc_check.specs.declared.finding.Finding.{Finding}
@@ -18,6 +19,13 @@ pub pushed_more : {X : Type 0} (view : X → Cell) (rows : List X) (i : ℕ) (ro
 pushed_more {X} view rows i row done lt is all =
     let next : drop i rows ≡ row ∷ drop (i + 1) rows = drop_more rows i row lt ∙ ap (λ (r : X). r ∷ drop (i + 1) rows) (sym is) in
     append_assoc done (view row ∷ []) (map view (drop (i + 1) rows)) ∙ ap (λ (rs : List X). done ++ map view rs) (sym next) ∙ all
+
+-- the rows before one, that one, and those after it are all
+pub all_of : {X : Type 0} (view : X → Cell) (before done : List Cell) (rows : List X) (i : ℕ) (row : X) → i < length rows → row ≡ get_or rows i row
+    → done ++ map view (drop i rows) ≡ map view rows → (before ++ done) ++ view row ∷ map view (drop (i + 1) rows) ≡ before ++ map view rows
+all_of {X} view before done rows i row lt is all =
+    let more : List Cell = map view (drop (i + 1) rows) in
+    append_assoc before done (view row ∷ more) ∙ ap (λ (l : List Cell). before ++ l) (sym (append_assoc done (view row ∷ []) more) ∙ pushed_more view rows i row done lt is all)
 
 -- some of the first rows are among those of more rows
 front_of : (count : ℕ) (rows more : List Cell) → (n : ℕ) × (take n (rows ++ more) ≡ take count rows)
@@ -69,6 +77,18 @@ pub read_back : ReadLaw → (options : Options) (schema : Shape) (tail : Tail) (
 read_back read options schema tail bytes there rows opened found wrote same is =
     let mine : wrote.bytes ≡ bytes = bytes_are (Some []) (Some bytes) bytes wrote.bytes refl refl wrote.told_is in
     read options schema tail (Some []) (Some bytes) rows opened found wrote (subst (λ (b : List ℕ). FileIs b opened found) (same ∙ sym mine) is)
+
+-- what the theorem says of opening
+abbrev pub OpenedLaw : Type 0
+OpenedLaw = (options : Options) (schema : Shape) (tail : Tail) (first told : Option (List ℕ)) (rows : List Cell) (opened : Tail)
+    → (wrote : WroteWholeFile options schema tail first told rows) → IsTail wrote.bytes opened → opened ≡ tail
+
+-- their tail is the one that was answered
+pub opened_back : OpenedLaw → (options : Options) (schema : Shape) (tail : Tail) (bytes there : List ℕ) (rows : List Cell) (opened : Tail)
+    → WroteWholeFile options schema tail (Some []) (Some bytes) rows → there ≡ bytes → IsTail there opened → opened ≡ tail
+opened_back law options schema tail bytes there rows opened wrote same is =
+    let mine : wrote.bytes ≡ bytes = bytes_are (Some []) (Some bytes) bytes wrote.bytes refl refl wrote.told_is in
+    law options schema tail (Some []) (Some bytes) rows opened wrote (subst (λ (b : List ℕ). IsTail b opened) (same ∙ sym mine) is)
 
 -- they are a file with the tail that was answered
 pub file_back : ReadLaw → (options : Options) (schema : Shape) (tail : Tail) (bytes there : List ℕ) (rows : List Cell) (opened : Tail) (found : List Cell)

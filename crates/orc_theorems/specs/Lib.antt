@@ -7,3 +7,5 @@ pub mod RunsRead
 pub mod Places
 pub mod StoredStats
 pub mod KeptGroups
+pub mod Refusals
+pub mod RowsRead

@@ -60,6 +60,12 @@ pub record WasWritten (bytes : List ℕ) (rows : List Cell) : Type 0 where
   pub finish_wrote : WroteWholeFile options schema tail first told rows
   pub bytes_are : bytes ≡ finish_wrote.bytes
 
+-- `Writer::finish` wrote these bytes for these rows, with this schema and these options
+abbrev pub WasWrittenAs : Options → Shape → List ℕ → List Cell → Type 0
+WasWrittenAs options schema bytes rows =
+    (tail : Tail) × (first : Option (List ℕ)) × (told : Option (List ℕ))
+    × (finish_wrote : WroteWholeFile options schema tail first told rows) × (bytes ≡ finish_wrote.bytes)
+
 -- `Writer::finish` wrote each input, for these rows
 abbrev pub WereWritten : List (List ℕ) → List (List Cell) → Type 0
 WereWritten = AllZip WasWritten

@@ -24,7 +24,7 @@ ghost use Rattle.orc_theorems.specs.Inputs.{AreWithoutFinding};
 ghost use Rattle.orc_theorems.specs.BeforeGroups.{with_bytes, DiffersOnlyBefore, FileDiffersOnlyBefore};
 
 use crate::merged_findings::findings_of_merges;
-use crate::printed_from_a_group::place_laws;
+use crate::printed_from_a_group::printing_from_the_middle;
 use orc_check::start_laws;
 
 /// If a file has no findings, then reading may start at any group of its rows and gives exactly the rows from there
@@ -105,6 +105,6 @@ pub fn reading_from_the_middle()
 {
     // each for its contract alone
     start_laws();
-    place_laws();
+    printing_from_the_middle();
     findings_of_merges();
 }

@@ -18,6 +18,7 @@ use crate::groups_of_rows::reading_from_the_middle;
 use crate::merged_findings_calls::found_in;
 use orc_cli_output::CliFault;
 use orc_cli_rows::rows_to;
+use orc_file_reader::row_laws;
 use orc_io::SliceSource;
 use std::alloc::Global;
 use std::io::Write;
@@ -97,9 +98,21 @@ pub fn print_other_from<W: Write>(
     // If `false` is returned, then `checked` is a file with rows and with at least one finding.
     ensures found { IfOk result (λ printed. printed ≡ false
         → (found : List Finding) × AreFound checked.now found × (found ≢ [])) }
+    // If `checked` is a file with rows that have JSON, `other` has its tail, `from` names a stripe and a group that
+    // this tail has, and `other` differs from `checked`, in this stripe, only before the offsets that the group's index
+    // entries record, and in no later stripe, then an error is `WriteFailed`, `SourceFailed` or `OutOfMemory`.
+    ensures only { IfErr result (λ e. (tail : Tail) (rows : List Cell) (stripe group : ℕ)
+        → FileIs checked.now tail rows → HaveJson tail.schema rows
+        → IsTail other.now tail
+        → IsStartText from.now stripe group
+        → ((n g : ℕ) → IsStartText from.now n g
+        → IsPlace tail n g × FileDiffersOnlyBefore checked.now tail n g other.now)
+        → IsOutsideFile e) }
 {
-    // for its contract alone: bytes before a group's offsets don't change what is printed from the group on
+    // each for its contract alone: bytes before a group's offsets don't change what is printed from the group on, and
+    // bytes are a file of one tail and one list of rows
     reading_from_the_middle();
+    row_laws();
     let found = found_in(alloc, checked)?;
     if !found.is_empty() {
         return Ok(false);

@@ -1,11 +1,12 @@
 //! Callers of `merge_theorem`. Each makes merges that the theorem speaks of, and its contract says what the theorem
 //! says of them.
-ghost use Rattle.std.specs.Prelude.{◌≡◌, ◌↔◌, ◌<◌, ◌⊎◌, ◌&&◌, ◌++◌, ◌∷◌, [], ℕ, List, Some, Ok, Err, map, slice_get, IsTrue, IfOk, IfErr};
+ghost use Rattle.std.specs.Prelude.{◌≡◌, ◌↔◌, ◌<◌, ◌^◌, ◌⊎◌, ◌&&◌, ◌++◌, ◌∷◌, [], ℕ, List, Some, Ok, Err, length, map, slice_get, IsTrue, IfOk, IfErr};
 ghost use Rattle.orc_values.specs.Cells.{Cell};
 ghost use Rattle.orc_values.specs.Shapes.{width};
 ghost use Rattle.orc_stats.specs.declared.stat.Stat.{Stat};
 ghost use Rattle.orc_stats.specs.Whole.{has_sum};
 ghost use Rattle.orc_stats.specs.ColumnStatistics.{column_stat};
+ghost use Rattle.orc_io.specs.Devices.{appended};
 ghost use Rattle.orc_file_reader.specs.FileRows.{FileIs, cut_rows};
 ghost use Rattle.orc_file_reader.specs.FileRows as rows;
 ghost use Rattle.orc_file_reader.specs.Honest.{Honest, HasWholeStats, each_sum_fits};
@@ -270,4 +271,46 @@ pub fn join_in_orders(
     let one = join_two(alloc, first, second)?;
     let other = join_two(alloc, second, first)?;
     Ok((one, other))
+}
+
+/// Joins three files both ways: in two steps in memory, as `join_in_steps` does, and by one merge into an output.
+/// Returns the bytes that the two steps gave. The output gets the same bytes, by clause `bytes` of `merge_theorem`.
+///
+/// # Errors
+///
+/// Fails if one of its three calls of `merge` fails.
+pub fn join_both_ways<W: Sink>(
+    alloc: Global,
+    first: &[u8],
+    second: &[u8],
+    third: &[u8],
+    out: &mut W,
+) -> Result<Vec<u8>, MergeFault>
+    // If joining succeeds, then `first` and `second` were merged, and what this wrote was merged with `third` into the
+    // returned bytes.
+    ensures wrote { IfOk result (λ steps. Wrote (first_two first.now second.now third.now) steps.items) }
+    // If joining succeeds and the output's bytes are known, then the output has got exactly the returned bytes, after
+    // what it had before.
+    ensures bytes { IfOk result (λ steps. W.told out.new ≡ appended (W.told out.old) steps.items) }
+    // If joining succeeds, then the returned bytes are the merged file of `first`, `second` and `third`, in this order,
+    // which has fewer than 2^64 bytes.
+    ensures merged { IfOk result (λ steps. (tail : Tail)
+        × IsMerge (first.now ∷ second.now ∷ third.now ∷ []) tail steps.items × (length steps.items < 2 ^ 64)) }
+    // An error is `SourceFailed`, `WriteFailed`, `OutOfMemory`, or the first fault of the inputs of one of the merges:
+    // those of the two steps, and the one merge of all three files.
+    ensures refused { IfErr result (λ e. IsStepAnswer (first_two first.now second.now third.now) e
+        ⊎ IsStepAnswer (at_once first.now second.now third.now) e) }
+{
+    // for its contract alone: one merge writes the bytes that each grouping wrote
+    merge_theorem();
+    let steps = join_in_steps(alloc, first, second, third)?;
+    let mut inputs = [
+        SliceSource::new(first),
+        SliceSource::new(second),
+        SliceSource::new(third),
+    ];
+    match merge(alloc, &mut inputs, out) {
+        Ok(_) => Ok(steps.bytes),
+        Err(fault) => Err(fault),
+    }
 }

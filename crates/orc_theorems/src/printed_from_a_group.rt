@@ -1,4 +1,5 @@
-//! Laws of printing files without findings from a group on. `place_laws` does nothing: its contract is the statement.
+//! Printing files without findings from a group on. `printing_from_the_middle` does nothing: its contract is the
+//! statement.
 ghost use Rattle.std.specs.Prelude.{◌≡◌, ℕ, List, [], Option, drop};
 ghost use Rattle.orc_values.specs.Cells.{Cell};
 ghost use Rattle.orc_file_reader.specs.FileRows.{FileIs};
@@ -15,7 +16,7 @@ use orc_check::start_laws;
 /// If a file has no findings, then the lines that are printed from a group of a stripe on are those of the file's
 /// rows from the group's first row on. If the group exists and the rows have JSON, then no fault of the file can stop
 /// printing them.
-pub fn place_laws()
+pub fn printing_from_the_middle()
     // If a file with rows has no findings, then lines that are printed of it from a group of a stripe on are
     // those of the file's rows from the group's first row on.
     ensures lines { (bytes : List ℕ) (tail : Tail) (rows : List Cell) (stripe group : ℕ) (lines : List ℕ)

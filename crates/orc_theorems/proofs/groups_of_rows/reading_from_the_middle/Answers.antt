@@ -7,10 +7,10 @@ pub returns-clause-starts : goal.returns-clause-starts
 returns-clause-starts c = c.start_laws.ensures
 
 pub returns-clause-lines : goal.returns-clause-lines
-returns-clause-lines c = c.place_laws.ensures.lines
+returns-clause-lines c = c.printing_from_the_middle.ensures.lines
 
 pub returns-clause-only : goal.returns-clause-only
-returns-clause-only c = c.place_laws.ensures.only
+returns-clause-only c = c.printing_from_the_middle.ensures.only
 
 pub returns-clause-merged : goal.returns-clause-merged
 returns-clause-merged c = λ groups out parts wrote found.
@@ -19,7 +19,7 @@ returns-clause-merged c = λ groups out parts wrote found.
       is.1,
       is.2,
       c.start_laws.ensures out is.0 (rows_together parts) is.1 is.2,
-      λ stripe group lines printed. c.place_laws.ensures.lines out is.0 (rows_together parts) stripe group lines is.1 is.2 printed,
+      λ stripe group lines printed. c.printing_from_the_middle.ensures.lines out is.0 (rows_together parts) stripe group lines is.1 is.2 printed,
     )
 
 pub returns-clause-alone : goal.returns-clause-alone

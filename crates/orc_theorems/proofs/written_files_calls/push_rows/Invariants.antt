@@ -11,6 +11,7 @@ invariant-loop-row g l = record {
   schema : l.writer.schema ≡ l.initial.writer.schema;
   options : l.writer.options ≡ l.initial.writer.options;
   going : l.initial.writer.failed ≡ false → l.writer.failed ≡ false;
+  no_failure : g.W.Sink.failures l.writer.out ≡ g.W.Sink.failures l.initial.writer.out;
   pushed : (done : List Cell) × (done ++ views (drop l.row-index l.rows) ≡ views l.rows)
       × ((first : Option (List ℕ)) (before : List Cell) → HasPushed (progress g.W.Sink.told l.initial.writer) first before
       → HasPushed (progress g.W.Sink.told l.writer) first (before ++ done));

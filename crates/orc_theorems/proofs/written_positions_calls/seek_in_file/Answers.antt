@@ -1,4 +1,4 @@
-use Rattle.std.proofs.Common.{◌≡◌, ℕ, List, sym, subst}
+use Rattle.std.proofs.Common.{◌≡◌, sym, subst}
 use Rattle.orc_tail.specs.declared.tail.Tail.{Tail}
 use Rattle.orc_theorems.specs.OneRunPositions.{ReadsOneRun}
 use Rattle.orc_theorems.proofs.written_positions_calls.seek_in_file.Goals as goal

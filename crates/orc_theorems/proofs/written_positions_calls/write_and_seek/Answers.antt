@@ -8,7 +8,7 @@ use Rattle.orc_theorems.proofs.written_positions_calls.write_and_seek.Goals as g
 pub returns : goal.returns
 returns c =
     let file = c.in_ok-file.file in
-    let wrote = c.in_ok-file.ensures in
+    let wrote = c.in_ok-file.ensures.wrote in
     let rows = views c.args.rows.now in
     let same : wrote.bytes ≡ c.deref.result.now = bytes_are (Some []) (Some file.bytes.items) file.bytes.items wrote.bytes refl refl wrote.told_is ∙ sym c.deref.ensures.value in
     let is = (c.writers_positions.ensures.written c.args.options c.args.schema file.tail (Some []) (Some file.bytes.items) rows wrote).0 in
