@@ -1,8 +1,11 @@
 -- What callers of `seek` count, at positions from which one run is read at most.
-use Rattle.std.proofs.Common.{◌≡◌, ◌∙◌, ℕ, ◌<◌, ◌≤◌, Option, Some, List, [], ◌∷◌, ◌++◌, length, take, drop, slice_get, get_or, refl, sym, ap, subst, arith}
+use Rattle.std.proofs.Common.{◌≡◌, ◌∙◌, ◌⊎◌, ℕ, ◌<◌, ◌≤◌, Bool, inl, inr, Option, Some, List, [], ◌∷◌, ◌++◌, length, take, drop, slice_get, get_or, refl, sym, ap, subst, arith}
+use Rattle.std.specs.Prelude.{◌≢◌, ◌%◌}
 use Rattle.std.proofs.lemmas.Option.{slice_get_read}
 use Rattle.orc_rle.specs.ByteRun.{IsByteRun}
 use Rattle.orc_rle.specs.Seeking.{bytes_needed}
+use Rattle.orc_positions.specs.Position.{Begins}
+use Rattle.orc_positions.specs.BitPosition.{IsWriterBitPosition, BeginsBits, BitsPending}
 use Rattle.orc_positions.proofs.BitPositionLemmas.{bit_place_begins}
 use Rattle.orc_wire.specs.declared.row_index.RowIndexEntry.{RowIndexEntry}
 use Rattle.orc_wire.specs.declared.row_index.RowIndexMsg.{RowIndexMsg}
@@ -23,7 +26,13 @@ use Rattle.orc_stripe_reader.specs.RowIndexes.{HasIndex}
 use Rattle.orc_tail.specs.Stripes.{stripe_at, stripe_bytes}
 use Rattle.orc_file_reader.specs.FileRows.{opened_stripe, cut_rows}
 use Rattle.orc_tail.specs.declared.tail.Tail.{Tail}
+use Rattle.orc_tail.specs.declared.fault.FileFault.{FileFault}
+use Rattle.orc_tail.specs.declared.fault.FileFault.TheVariants.{Stripe, OutOfMemory}
+use Rattle.orc_directory.specs.declared.fault.StripeFault.{StripeFault}
+use Rattle.orc_directory.specs.declared.fault.StripeFault.TheVariants as stripe
 use Rattle.orc_check.specs.Findings.{rows_at}
+use Rattle.orc_theorems.specs.Refusals.{IsSourceFault}
+use Rattle.orc_theorems.specs.SoughtGroups.{IsSeekFault}
 use Rattle.orc_theorems.specs.OneRunPositions.{SeekCounts, NeedsOneRun, NeedsOneBitRun, IsOneRunPosition, AreOneRunPositions, ColumnReadsOneRun, ReadsOneRun}
 
 -- ---- one stream
@@ -46,6 +55,35 @@ bit_sought bytes ps o s b n old new e h none k =
     let there : SeekCounts IsByteRun bytes h.0 (bytes_needed h.1 h.2) old new =
     subst (λ (x : ℕ). SeekCounts IsByteRun bytes x (bytes_needed h.1 h.2) old new) offset (subst (λ (x : ℕ). SeekCounts IsByteRun bytes o x old new) need k) in
     omega (arith, h.4.one_run old new there, none)
+
+-- the position names the value
+pub begins_there : {A : Type 0} (R : List ℕ → List A → Type 0) (bytes ps : List ℕ) (o s n : ℕ) → ps ≡ o ∷ s ∷ [] → RunPosition (NeedsOneRun R bytes) n ps → Begins R bytes o s n
+begins_there R bytes ps o s n e h =
+    let two : o ∷ s ∷ [] ≡ h.0 ∷ h.1 ∷ [] = sym e ∙ h.2 in
+    let offset : o ≡ h.0 = cc in
+    let skip : s ≡ h.1 = cc in
+    subst (λ (x : ℕ). Begins R bytes x s n) (sym offset) (subst (λ (x : ℕ). Begins R bytes h.0 x n) (sym skip) h.3.place.begins)
+
+-- what a law says of a writer's position
+abbrev pub PlaceLaw : Type 0
+PlaceLaw = (bytes : List ℕ) (total offset skip bits n : ℕ) → IsWriterBitPosition bytes total offset skip bits n → BeginsBits bytes total offset skip bits n
+
+-- the position names the boolean, of as many as there may be
+pub bits_there : PlaceLaw → (bytes ps : List ℕ) (o s b n total : ℕ) → ps ≡ o ∷ s ∷ b ∷ [] → BitsPosition (NeedsOneBitRun bytes) n ps → n ≤ total
+    → BeginsBits bytes total o s b n × (b ≡ n % 8)
+bits_there law bytes ps o s b n total e h le =
+    let three : o ∷ s ∷ b ∷ [] ≡ h.0 ∷ h.1 ∷ h.2 ∷ [] = sym e ∙ h.3 in
+    let offset : o ≡ h.0 = cc in
+    let skip : s ≡ h.1 = cc in
+    let bits : b ≡ h.2 = cc in
+    let its : BeginsBits bytes total h.0 h.1 h.2 n = law bytes total h.0 h.1 h.2 n (record { place = h.4.place.place; bits_are = h.4.place.bits_are; there = le }) in (
+      subst (λ (x : ℕ). BeginsBits bytes total x s b n) (sym offset) (subst (λ (x : ℕ). BeginsBits bytes total h.0 x b n) (sym skip)
+          (subst (λ (x : ℕ). BeginsBits bytes total h.0 h.1 x n) (sym bits) its)),
+      bits ∙ h.4.place.bits_are,
+    )
+
+pub bits_lead : (b n : ℕ) (left rest : List ℕ) (all : List Bool) → b ≡ n % 8 → BitsPending left rest b (drop n all) → (more : List ℕ) × BitsPending left more (n % 8) (drop n all)
+bits_lead b n left rest all e h = (rest, subst (λ (x : ℕ). BitsPending left rest x (drop n all)) e h)
 
 -- ---- the streams of a column
 
@@ -95,6 +133,34 @@ entry_reads view rows c g message entries entry positions reads has same lt is a
     (sym at) (reads message has g entry there)
 
 -- ---- a stripe of a file, as it is opened
+
+pub view_is : (bytes own : List ℕ) (tail opened : Tail) (n : ℕ) (view : Opened) → opened ≡ tail
+    → own ≡ stripe_bytes (stripe_at opened.stripes n) bytes → HasFooter opened.schema (stripe_at opened.stripes n) own view.footer
+    → (view.schema ≡ opened.schema) × (view.info ≡ stripe_at opened.stripes n) × (view.stride ≡ opened.stride) × (view.bytes ≡ own)
+    → (view ≡ opened_stripe tail n (stripe_bytes (stripe_at tail.stripes n) bytes) view.footer)
+    × HasFooter tail.schema (stripe_at tail.stripes n) (stripe_bytes (stripe_at tail.stripes n) bytes) view.footer
+view_is bytes own tail opened n view e is found same =
+    let schema : view.schema ≡ tail.schema = same.0 ∙ ap (λ (t : Tail). t.schema) e in
+    let info : view.info ≡ stripe_at tail.stripes n = same.1 ∙ ap (λ (t : Tail). stripe_at t.stripes n) e in
+    let stride : view.stride ≡ tail.stride = same.2 ∙ ap (λ (t : Tail). t.stride) e in
+    let text : view.bytes ≡ stripe_bytes (stripe_at tail.stripes n) bytes = same.3 ∙ is ∙ ap (λ (t : Tail). stripe_bytes (stripe_at t.stripes n) bytes) e in (
+      λ i. record { schema = schema i; info = info i; stride = stride i; bytes = text i; footer = view.footer },
+      subst (λ (t : Tail). HasFooter t.schema (stripe_at t.stripes n) (stripe_bytes (stripe_at t.stripes n) bytes) view.footer) e
+          (subst (λ (b : List ℕ). HasFooter opened.schema (stripe_at opened.stripes n) b view.footer) is found),
+    )
+
+-- ---- why a group isn't found
+
+pub load_fault : (tail : Tail) (n : ℕ) (fault : FileFault) → IsSourceFault fault → IsSeekFault tail n fault
+load_fault tail n fault (inl memory) = inr (inl memory)
+load_fault tail n fault (inr source) = inr (inr (inl source))
+
+pub view_fault : (tail : Tail) (n : ℕ) (fault : FileFault) (P : StripeFault → Type 0) → n < length tail.stripes
+    → (fault ≡ OutOfMemory) ⊎ ((why : StripeFault) × (fault ≡ Stripe n why) × (why ≢ stripe.OutOfMemory) × P why) → IsSeekFault tail n fault
+view_fault tail n fault P there (inl memory) = inr (inl memory)
+view_fault tail n fault P there (inr h) = inr (inr (inr (there, (h.0, h.1))))
+
+-- ---- what is read of a stripe's view
 
 pub view_reads : (bytes own : List ℕ) (tail opened : Tail) (rows : List Cell) (n : ℕ) (view : Opened) → ReadsOneRun bytes tail rows → opened ≡ tail → n < length opened.stripes
     → own ≡ stripe_bytes (stripe_at opened.stripes n) bytes → HasFooter opened.schema (stripe_at opened.stripes n) own view.footer

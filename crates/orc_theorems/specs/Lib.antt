@@ -9,3 +9,4 @@ pub mod StoredStats
 pub mod KeptGroups
 pub mod Refusals
 pub mod RowsRead
+pub mod SoughtGroups

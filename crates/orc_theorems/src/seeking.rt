@@ -1,15 +1,18 @@
 //! Goes to the positions of a row index entry in a column's streams.
-ghost use Rattle.std.specs.Prelude.{◌≡◌, ◌≤◌, ◌∷◌, ◌++◌, ℕ, List, [], IfOk, IfSome};
+ghost use Rattle.std.specs.Prelude.{◌≡◌, ◌∷◌, ◌++◌, ℕ, ℤ, List, [], drop, IfOk, IfSome};
 ghost use Rattle.orc_values.specs.Cells.{Cell};
 ghost use Rattle.orc_values.specs.Shapes.{Shape};
+ghost use Rattle.orc_rle.specs.Stream.{IsStream, RunsLeft};
+ghost use Rattle.orc_positions.specs.Position.{Begins};
 ghost use Rattle.orc_column_reader.specs.Numbers.{is_run};
 ghost use Rattle.orc_column_reader.specs.Stripe.{Streams};
 ghost use Rattle.orc_row_index.specs.Positions.{octets_position};
 ghost use Rattle.orc_row_index.specs.RunStreams.{bit_runs, byte_runs, number_runs};
 ghost use Rattle.orc_row_index.specs.Walking.{runs, lent_bytes, ArePlaced};
 ghost use Rattle.orc_theorems.specs.OneRunPositions.{SeekCounts, IsOneRunPosition, AreOneRunPositions};
-ghost use Rattle.orc_theorems.specs.RunsRead.{runs_read, ReadOneEach};
+ghost use Rattle.orc_theorems.specs.SoughtGroups.{IsSought, IsColumnSought};
 
+use orc_positions::{bit_seek_laws, byte_seek_laws, seek_laws};
 use orc_rle::{BitPos, BitRuns, ByteRuns, Pos, Rle, Run, RunCodec, RunFault, RunU8, Sign, V1, V2};
 use orc_row_index::{PlacedStreams, RunBytes};
 
@@ -67,8 +70,15 @@ fn seek_version(
     pos: Pos,
     run: &mut Run,
 ) -> Result<usize, RunFault>
-    ensures { SeekCounts (is_run version sign) bytes.now pos.offset pos.skip run.old.count run.new.count }
+    ensures counts { SeekCounts (is_run version sign) bytes.now pos.offset pos.skip run.old.count run.new.count }
+    ensures leads { IfOk result (λ at. (n : ℕ) (all : List ℤ)
+        → Begins (is_run version sign) bytes.now pos.offset pos.skip n
+        → IsStream (is_run version sign) bytes.now all
+        → RunsLeft (is_run version sign) run.new.values (drop at bytes.now) (drop n all)) }
 {
+    // each for its contract alone: after seeking a position come the values from the one that it names on
+    seek_laws::<V1>();
+    seek_laws::<V2>();
     match version {
         Rle::One => V1::seek(bytes, sign, pos, run),
         Rle::Two => V2::seek(bytes, sign, pos, run),
@@ -83,7 +93,7 @@ fn seek_numbers(
     positions: &[u64],
 ) -> Result<Sought, RunFault>
     ensures { (n : ℕ) → IsOneRunPosition (number_runs version sign bytes.now) n positions.now
-        → IfOk result (λ sought. runs_read sought ≤ 1) }
+        → IfOk result (IsSought (number_runs version sign bytes.now) n) }
 {
     let Some(pos) = pos_of(positions) else {
         return Err(RunFault::BadPosition(0));
@@ -98,8 +108,10 @@ fn seek_numbers(
 /// Goes to a position in a stream of bytes.
 fn seek_bytes(bytes: &[u8], positions: &[u64]) -> Result<Sought, RunFault>
     ensures { (n : ℕ) → IsOneRunPosition (byte_runs bytes.now) n positions.now
-        → IfOk result (λ sought. runs_read sought ≤ 1) }
+        → IfOk result (IsSought (byte_runs bytes.now) n) }
 {
+    // for its contract alone: after seeking a position come the bytes from the one that it names on
+    byte_seek_laws();
     let Some(pos) = pos_of(positions) else {
         return Err(RunFault::BadPosition(0));
     };
@@ -113,8 +125,10 @@ fn seek_bytes(bytes: &[u8], positions: &[u64]) -> Result<Sought, RunFault>
 /// Goes to a position in a stream of booleans.
 fn seek_bits(bytes: &[u8], positions: &[u64]) -> Result<Sought, RunFault>
     ensures { (n : ℕ) → IsOneRunPosition (bit_runs bytes.now) n positions.now
-        → IfOk result (λ sought. runs_read sought ≤ 1) }
+        → IfOk result (IsSought (bit_runs bytes.now) n) }
 {
+    // for its contract alone: after seeking a position come the booleans from the one that it names on
+    bit_seek_laws();
     let Some(pos) = bit_pos_of(positions) else {
         return Err(RunFault::BadPosition(0));
     };
@@ -128,7 +142,7 @@ fn seek_bits(bytes: &[u8], positions: &[u64]) -> Result<Sought, RunFault>
 /// Goes to a position in a stream of integers, bytes or booleans.
 fn seek_stream(stream: &RunBytes<'_>, positions: &[u64]) -> Result<Sought, RunFault>
     ensures { (n : ℕ) → IsOneRunPosition (runs stream.now) n positions.now
-        → IfOk result (λ sought. runs_read sought ≤ 1) }
+        → IfOk result (IsSought (runs stream.now) n) }
 {
     match *stream {
         RunBytes::Nothing => Ok(Sought::Nothing),
@@ -163,7 +177,7 @@ pub(crate) fn seek_places(
     positions: &[u64],
 ) -> Result<ColumnSought, RunFault>
     ensures { (s : Shape) (x : Streams) (before : List Cell) → ArePlaced s x placed.now
-        → AreOneRunPositions s x before positions.now → IfOk result ReadOneEach }
+        → AreOneRunPositions s x before positions.now → IfOk result (IsColumnSought s x before) }
 {
     let size = placed.present.position_size();
     if positions.len() < size {

@@ -1,18 +1,26 @@
 //! Callers of `writers_positions`. They go to the start of a row group in the streams of a column: in a file that was
 //! written, and in a file that two others were joined into.
-ghost use Rattle.std.specs.Prelude.{◌≡◌, ◌<◌, ℕ, List, Some, IfOk};
+ghost use Rattle.std.specs.Prelude.{◌≡◌, ◌⊎◌, ◌<◌, ◌∷◌, [], ℕ, List, Option, Some, IfOk, IfErr};
 ghost use Rattle.orc_values.specs.Cells.{Cell};
 ghost use Rattle.orc_values.specs.Shapes.{width, shape_at};
+ghost use Rattle.orc_values.specs.Views.{views};
 ghost use Rattle.orc_column_reader.specs.Stripe.{columns_of};
 ghost use Rattle.orc_row_index.specs.Walking.{ArePlaced};
-ghost use Rattle.orc_file_reader.specs.FileRows.{FileIs};
+ghost use Rattle.orc_file_reader.specs.FileRows.{FileIs, rows_together};
+ghost use Rattle.orc_file_writer.specs.Writing.{WroteWholeFile};
+ghost use Rattle.orc_tail.specs.Caps.{no_cap};
+ghost use Rattle.orc_tail.specs.Tails.{IsTail};
 ghost use Rattle.orc_tail.specs.declared.tail.Tail.{Tail};
+ghost use Rattle.orc_theorems.specs.Groupings.{MergedTo};
 ghost use Rattle.orc_theorems.specs.OneRunPositions.{ColumnReadsOneRun, ReadsOneRun};
+ghost use Rattle.orc_theorems.specs.Refusals.{IsWriteFault, IsSourceFault};
 ghost use Rattle.orc_theorems.specs.RunsRead.{ReadOneEach};
-ghost use Rattle.orc_theorems.specs.WrittenIndexes.{WasWritten};
+ghost use Rattle.orc_theorems.specs.SoughtGroups.{IsGroupSought, IsSoughtInFile, IsSoughtInWritten, IsSeekFault, IsJoinSeekFault};
+ghost use Rattle.orc_theorems.specs.WrittenIndexes.{AreIndexedAsWritten, WasWritten};
 
 use crate::fault::CallFault;
 use crate::memory::{join_two, opened};
+use crate::merging::merge_theorem;
 use crate::seeking::{ColumnSought, seek_places};
 use crate::written_files_calls::write_rows;
 use crate::written_positions::writers_positions;
@@ -56,7 +64,7 @@ fn seek_group(
 ) -> Result<ColumnSought, StripeFault>
     ensures { (rows : List Cell)
         → (0 < view.now.stride → column < width view.now.schema → ColumnReadsOneRun view.now rows column)
-        → IfOk result ReadOneEach }
+        → IfOk result (IsGroupSought view.now rows column group) }
 {
     let index = match view.index(alloc, column) {
         Ok(index) => index,
@@ -81,10 +89,11 @@ fn seek_in_stripe<S: Source>(
     column: usize,
     group: usize,
 ) -> Result<ColumnSought, FileFault>
-    ensures { (bytes : List ℕ) (rows : List Cell)
+    ensures sought { (bytes : List ℕ) (rows : List Cell)
         → S.told file.old.source ≡ Some bytes
         → ReadsOneRun bytes file.old.tail rows
-        → IfOk result ReadOneEach }
+        → IfOk result (IsSoughtInFile bytes file.old.tail rows stripe column group) }
+    ensures refused { file.old.cap ≡ no_cap → IfErr result (IsSeekFault file.old.tail stripe) }
 {
     if stripe >= file.tail().stripes.as_slice().len() {
         return Err(FileFault::BadStripe(stripe));
@@ -106,10 +115,11 @@ fn seek_in_file(
     column: usize,
     group: usize,
 ) -> Result<ColumnSought, FileFault>
-    ensures { (tail : Tail) (rows : List Cell)
+    ensures sought { (tail : Tail) (rows : List Cell)
         → FileIs bytes.now tail rows
         → ReadsOneRun bytes.now tail rows
-        → IfOk result ReadOneEach }
+        → IfOk result (IsSoughtInFile bytes.now tail rows stripe column group) }
+    ensures refused { (tail : Tail) → IsTail bytes.now tail → IfErr result (IsSeekFault tail stripe) }
 {
     // for its contract alone: bytes have one tail
     tail_laws();
@@ -137,6 +147,15 @@ pub fn write_and_seek(
     // If the call succeeds, then at most one run was read in each of the column's streams of runs to reach the
     // group.
     ensures one_run { IfOk result ReadOneEach }
+    // If the call succeeds, then the file that a writer writes of `rows` has the stripe, the column and the group. In
+    // each of the column's streams of runs the values that are left of the run that was read last, followed by those of
+    // the runs after it, are the stream's values from the group's first value on.
+    ensures sought { IfOk result (IsSoughtInWritten options schema (views rows.now) stripe column group) }
+    // An error is one with which `write_to` may fail for `rows`. Or the file was written, and the error is `BadStripe`,
+    // only if it has no such stripe, `OutOfMemory`, `SourceFailed`, or `Stripe` with this stripe's number.
+    ensures refused { IfErr result (λ e. IsWriteFault options schema (views rows.now) e
+        ⊎ ((tail : Tail) × (first : Option (List ℕ)) × (told : Option (List ℕ))
+        × WroteWholeFile options schema tail first told (views rows.now) × IsSeekFault tail stripe e)) }
 {
     // for its contract alone: from a writer's positions at most one run is read
     writers_positions();
@@ -167,9 +186,24 @@ pub fn join_and_seek(
         → WasWritten first.now rows
         → WasWritten second.now others
         → IfOk result ReadOneEach }
+    // If the call succeeds, and `first` and `second` are files with rows whose row indexes are as a writer writes them,
+    // then their merged file is a file with all these rows, in order, and has the stripe, the column and the group. In
+    // each of the column's streams of runs at most one run was read, and the values that are left of it, followed by
+    // those of the runs after it, are the stream's values from the group's first value on.
+    ensures sought { (rows others : List Cell)
+        → AreIndexedAsWritten (first.now ∷ second.now ∷ []) (rows ∷ others ∷ [])
+        → IfOk result (λ found. (out : List ℕ) × (tail : Tail)
+        × MergedTo (first.now ∷ second.now ∷ []) out × FileIs out tail (rows_together (rows ∷ others ∷ []))
+        × IsSoughtInFile out tail (rows_together (rows ∷ others ∷ [])) stripe column group found) }
+    // An error in `Merge` is `SourceFailed`, `WriteFailed`, `OutOfMemory`, or the first fault of `first` and `second` as
+    // inputs. After an error in `File` the two files have a merged file, and the error is `BadStripe`, only if this has
+    // no such stripe, `OutOfMemory`, `SourceFailed`, or `Stripe` with this stripe's number.
+    ensures refused { IfErr result (IsJoinSeekFault first.now second.now stripe) }
 {
-    // for its contract alone: from a writer's positions at most one run is read
+    // each for its contract alone: from a writer's positions at most one run is read, and a merged file opens with the
+    // merged tail
     writers_positions();
+    merge_theorem();
     match join_two(alloc, first, second) {
         Ok(joined) => match seek_in_file(alloc, &joined.bytes, stripe, column, group) {
             Ok(sought) => Ok(sought),
