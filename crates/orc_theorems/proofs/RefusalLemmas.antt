@@ -13,9 +13,10 @@ use Rattle.orc_tail.specs.declared.tail.Tail.{Tail}
 use Rattle.orc_tail.specs.declared.fault.FileFault.{FileFault}
 use Rattle.orc_tail.specs.declared.fault.FileFault.TheVariants.{Limit, RowShape, SourceFailed, WriteFailed, OutOfMemory, Failed}
 use Rattle.orc_file_reader.specs.FileRows.{FileIs, FirstRefused, rows_together}
-use Rattle.orc_file_writer.specs.Writing.{Progress, HasKept, WroteWholeFile, rows_of, PassesBytes}
+use Rattle.orc_file_writer.specs.Writing.{Progress, HasKept, IsWrittenFile, WroteWholeFile, rows_of, PassesBytes}
 use Rattle.orc_file_writer.specs.RowLimits.{PassesByRows}
 use Rattle.orc_check.specs.Checking.{CheckFault}
+use Rattle.orc_check.specs.Findings.{Findings}
 use Rattle.orc_merger.specs.declared.fault.MergeFault.{MergeFault}
 use Rattle.orc_merger.specs.Merging.{IsMerge}
 use Rattle.orc_merger.specs.Faults.{IsMergeRefused, IsDeviceFault}
@@ -160,7 +161,7 @@ joined_is law a b out there t u tail x y in_a in_b w same =
 abbrev pub NoFault : Type 0
 NoFault = (inputs : List (List ℕ)) (tail : Tail) (out : List ℕ) (fault : MergeFault) → IsMerge inputs tail out → IsMergeRefused inputs fault → ⊥
 
-device_fault : NoFault → (files : List (List ℕ)) (tail : Tail) (out : List ℕ) (e : MergeFault) → IsMerge files tail out → IsAnswer files e → IsDeviceFault e
+pub device_fault : NoFault → (files : List (List ℕ)) (tail : Tail) (out : List ℕ) (e : MergeFault) → IsMerge files tail out → IsAnswer files e → IsDeviceFault e
 device_fault none files tail out e m (inl device) = device
 device_fault none files tail out e m (inr refused) = absurd (none files tail out e m refused)
 
@@ -209,3 +210,22 @@ append_fault no_tail no_rows one file there options schema tail rows (Merge why)
 pub both_ok : {T E : Type 0} (r : Result T E) (P Q R : T → Type 0) → ((x : T) → P x → Q x → R x) → IfOk r P → IfOk r Q → IfOk r R
 both_ok (Ok x) P Q R f p q = f x p q
 both_ok (Err e) P Q R f p q = tt
+
+-- a refusal under a premise
+pub err_if : {T E : Type 0} (r : Result T E) (H : Type 0) (Q : E → Type 0) → (H → IfErr r Q) → IfErr r (λ e. H → Q e)
+err_if (Ok x) H Q f = tt
+err_if (Err e) H Q f = f
+
+-- ---- files that were written
+
+-- what a law says of findings of written files
+abbrev pub WithoutFindingLaw : Type 0
+WithoutFindingLaw = (options : Options) (s : Shape) (tail : Tail) (bytes : List ℕ) (rows : List Cell) → IsWrittenFile options s tail bytes rows → FileIs bytes tail rows
+    → Findings bytes tail rows []
+
+-- a file that was written has no findings
+pub written_without : WrittenLaw → WithoutFindingLaw → (bytes : List ℕ) (rows : List Cell) → WasWritten bytes rows → (tail : Tail) × FileIs bytes tail rows × Findings bytes tail rows []
+written_without law without bytes rows was =
+    let is = (law was.options was.schema was.tail was.first was.told rows was.finish_wrote).1 in
+    let none = without was.options was.schema was.tail was.finish_wrote.bytes rows was.finish_wrote.file is in
+    (was.tail, subst (λ (b : List ℕ). FileIs b was.tail rows) (sym was.bytes_are) is, subst (λ (b : List ℕ). Findings b was.tail rows []) (sym was.bytes_are) none)

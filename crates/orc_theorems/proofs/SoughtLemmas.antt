@@ -1,11 +1,12 @@
 -- What callers of `seek` count, at positions from which one run is read at most.
-use Rattle.std.proofs.Common.{◌≡◌, ◌∙◌, ◌⊎◌, ℕ, ◌<◌, ◌≤◌, Bool, inl, inr, Option, Some, List, [], ◌∷◌, ◌++◌, length, take, drop, slice_get, get_or, refl, sym, ap, subst, arith}
+use Rattle.std.proofs.Common.{◌≡◌, ◌∙◌, ◌⊎◌, ℕ, ◌<◌, ◌≤◌, Bool, inl, inr, Option, Some, List, [], ◌∷◌, ◌++◌, length, take, drop, slice_get, get_or, refl, sym, ap, subst, append_assoc, length-append, Result, Ok, arith}
 use Rattle.std.specs.Prelude.{◌≢◌, ◌%◌}
 use Rattle.std.proofs.lemmas.Option.{slice_get_read}
 use Rattle.orc_rle.specs.ByteRun.{IsByteRun}
-use Rattle.orc_rle.specs.Seeking.{bytes_needed}
-use Rattle.orc_positions.specs.Position.{Begins}
-use Rattle.orc_positions.specs.BitPosition.{IsWriterBitPosition, BeginsBits, BitsPending}
+use Rattle.orc_rle.specs.Seeking.{bytes_needed, Seeks, SeeksBits}
+use Rattle.orc_rle.specs.Stream.{AreRuns, IsStream, RunsLeft}
+use Rattle.orc_positions.specs.Position.{Begins, GoesOnFrom}
+use Rattle.orc_positions.specs.BitPosition.{IsWriterBitPosition, BeginsBits, BitsPending, BitsGoOn}
 use Rattle.orc_positions.proofs.BitPositionLemmas.{bit_place_begins}
 use Rattle.orc_wire.specs.declared.row_index.RowIndexEntry.{RowIndexEntry}
 use Rattle.orc_wire.specs.declared.row_index.RowIndexMsg.{RowIndexMsg}
@@ -64,6 +65,34 @@ begins_there R bytes ps o s n e h =
     let skip : s ≡ h.1 = cc in
     subst (λ (x : ℕ). Begins R bytes x s n) (sym offset) (subst (λ (x : ℕ). Begins R bytes h.0 x n) (sym skip) h.3.place.begins)
 
+-- streams one after the other
+runs_after : {A : Type 0} (R : List ℕ → List A → Type 0) (ps qs : List (List ℕ × List A)) (a b : List ℕ) (v w : List A) → AreRuns R ps a v → AreRuns R qs b w → AreRuns R (ps ++ qs) (a ++ b) (v ++ w)
+runs_after {A} R [] qs a b v w h k =
+    subst (λ (x : List ℕ). AreRuns R qs (x ++ b) (v ++ w)) (sym h.0) (subst (λ (y : List A). AreRuns R qs b (y ++ w)) (sym h.1) k)
+runs_after {A} R (p ∷ ps) qs a b v w h k = (
+  h.0 ++ b,
+  h.1 ++ w,
+  h.2,
+  ap (λ (x : List ℕ). x ++ b) h.3 ∙ append_assoc p.0 h.0 b,
+  ap (λ (y : List A). y ++ w) h.4 ∙ append_assoc p.1 h.1 w,
+  runs_after R ps qs h.0 b h.1 w h.5 k,
+)
+
+-- where a position names a value the bytes are a stream
+pub stream_there : {A : Type 0} (R : List ℕ → List A → Type 0) (bytes : List ℕ) (o s n : ℕ) → Begins R bytes o s n → (all : List A) × IsStream R bytes all
+stream_there {A} R bytes o s n h = (
+  h.before ++ h.after,
+  subst (λ (x : List ℕ). IsStream R x (h.before ++ h.after)) (sym h.parts)
+      (h.stream.0 ++ h.more.0, runs_after R h.stream.0 h.more.0 h.front h.rest h.before h.after h.stream.1 h.more.1),
+)
+
+-- what seeking gives that can't fail
+pub sought_at : {A E : Type 0} (R : List ℕ → List A → Type 0) (bytes : List ℕ) (o s : ℕ) (r : Result ℕ E) (left after : List A) → GoesOnFrom R bytes o s s after
+    → ((at : ℕ) (values : List A) → Seeks R bytes o s s at values → (r ≡ Ok at) × (left ≡ values)) → (at : ℕ) × (r ≡ Ok at) × RunsLeft R left (drop at bytes) after
+sought_at {A} R bytes o s r left after g only =
+    let done = only g.at g.left g.seeks in
+    (g.at, done.0, subst (λ (l : List A). RunsLeft R l (drop g.at bytes) after) (sym done.1) g.goes_on)
+
 -- what a law says of a writer's position
 abbrev pub PlaceLaw : Type 0
 PlaceLaw = (bytes : List ℕ) (total offset skip bits n : ℕ) → IsWriterBitPosition bytes total offset skip bits n → BeginsBits bytes total offset skip bits n
@@ -82,8 +111,32 @@ bits_there law bytes ps o s b n total e h le =
       bits ∙ h.4.place.bits_are,
     )
 
+pub bits_sought : {E : Type 0} (bytes : List ℕ) (o s b : ℕ) (r : Result ℕ E) (left : List ℕ) (after : List Bool) → BitsGoOn bytes o s b after
+    → ((at : ℕ) (values : List ℕ) → SeeksBits bytes o s b at values → (r ≡ Ok at) × (left ≡ values)) → (at : ℕ) × (r ≡ Ok at) × BitsPending left (drop at bytes) b after
+bits_sought bytes o s b r left after g only =
+    let done = only g.at g.left g.seeks in
+    (g.at, done.0, subst (λ (l : List ℕ). BitsPending l (drop g.at bytes) b after) (sym done.1) g.goes_on)
+
 pub bits_lead : (b n : ℕ) (left rest : List ℕ) (all : List Bool) → b ≡ n % 8 → BitsPending left rest b (drop n all) → (more : List ℕ) × BitsPending left more (n % 8) (drop n all)
 bits_lead b n left rest all e h = (rest, subst (λ (x : ℕ). BitsPending left rest x (drop n all)) e h)
+
+-- a position has as many numbers as its stream asks for
+place_size : (c : RunStream) (n : ℕ) (ps : List ℕ) → IsOneRunPosition c n ps → length ps ≡ position_size c
+place_size no_stream n ps h = ap (λ (l : List ℕ). length l) h
+place_size (bit_runs b) n ps h = ap (λ (l : List ℕ). length l) h.3
+place_size (byte_runs b) n ps h = ap (λ (l : List ℕ). length l) h.2
+place_size (number_runs v sign b) n ps h = ap (λ (l : List ℕ). length l) h.2
+
+-- so there are enough for PRESENT
+pub long_enough : (s : Shape) (x : Streams) (before : List Cell) (placed : PlacedStreams) (ps : List ℕ) (size : ℕ) → ArePlaced s x placed → AreOneRunPositions s x before ps
+    → size ≡ position_size (runs placed.present) → size ≤ length ps
+long_enough s x before placed ps size are h e =
+    let present : RunStream = present_runs (x.stream 0) in
+    let first : length h.first ≡ position_size present = place_size present (length before) h.first h.present_position in
+    let rest : List ℕ = octets_position (value_bytes s x) (octets before) ++ h.last in
+    let all : length ps ≡ length (h.first ++ rest) = ap (λ (l : List ℕ). length l) h.parts in
+    let long : size ≡ position_size present = e ∙ ap position_size are.present_is in
+    omega (arith, first, all, long, length-append h.first rest)
 
 -- ---- the streams of a column
 
@@ -132,6 +185,15 @@ entry_reads view rows c g message entries entry positions reads has same lt is a
     subst (λ (ps : List ℕ). AreOneRunPositions (shape_at view.schema c) (columns_of view.footer view.bytes c) (before_group (cells view.schema c rows) (bounds_of view.schema c rows (starts_of_groups view.stride (length rows))) g) ps)
     (sym at) (reads message has g entry there)
 
+-- the entry that was read is the one that is there
+pub same_positions : (told entries : List RowIndexEntry) (g : ℕ) (entry read : RowIndexEntry) (positions : List ℕ) → entries ≡ told → g < length entries → read ≡ get_or entries g read
+    → positions ≡ read.positions → slice_get told g ≡ Some entry → positions ≡ entry.positions
+same_positions told entries g entry read positions same lt is at there =
+    let found : slice_get entries g ≡ Some read = slice_get_read entries (length entries) g read refl lt is in
+    let both : Some read ≡ Some entry = sym found ∙ ap (λ (es : List RowIndexEntry). slice_get es g) same ∙ there in
+    let one : read ≡ entry = cc in
+    at ∙ ap (λ (e : RowIndexEntry). e.positions) one
+
 -- ---- a stripe of a file, as it is opened
 
 pub view_is : (bytes own : List ℕ) (tail opened : Tail) (n : ℕ) (view : Opened) → opened ≡ tail
@@ -159,6 +221,17 @@ pub view_fault : (tail : Tail) (n : ℕ) (fault : FileFault) (P : StripeFault �
     → (fault ≡ OutOfMemory) ⊎ ((why : StripeFault) × (fault ≡ Stripe n why) × (why ≢ stripe.OutOfMemory) × P why) → IsSeekFault tail n fault
 view_fault tail n fault P there (inl memory) = inr (inl memory)
 view_fault tail n fault P there (inr h) = inr (inr (inr (there, (h.0, h.1))))
+
+pub stripe_fault_is : (tail : Tail) (n : ℕ) (cause : StripeFault) (fault : FileFault) → n < length tail.stripes
+    → ((cause ≡ stripe.OutOfMemory) × (fault ≡ OutOfMemory)) ⊎ ((cause ≢ stripe.OutOfMemory) × (fault ≡ Stripe n cause)) → IsSeekFault tail n fault
+stripe_fault_is tail n cause fault there (inl memory) = inr (inl memory.1)
+stripe_fault_is tail n cause fault there (inr other) = inr (inr (inr (there, (cause, other.1))))
+
+-- a stripe that is refused for memory alone
+pub memory_fault : (n : ℕ) (cause : StripeFault) (fault : FileFault) → cause ≡ stripe.OutOfMemory
+    → ((cause ≡ stripe.OutOfMemory) × (fault ≡ OutOfMemory)) ⊎ ((cause ≢ stripe.OutOfMemory) × (fault ≡ Stripe n cause)) → IsSourceFault fault
+memory_fault n cause fault e (inl memory) = inl memory.1
+memory_fault n cause fault e (inr other) = absurd (other.0 e)
 
 -- ---- what is read of a stripe's view
 

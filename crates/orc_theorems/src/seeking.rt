@@ -1,5 +1,5 @@
 //! Goes to the positions of a row index entry in a column's streams.
-ghost use Rattle.std.specs.Prelude.{◌≡◌, ◌∷◌, ◌++◌, ℕ, ℤ, List, [], drop, IfOk, IfSome};
+ghost use Rattle.std.specs.Prelude.{◌≡◌, ◌∷◌, ◌++◌, ℕ, ℤ, List, [], Ok, length, drop, IfSome, IsSome, MatchResult};
 ghost use Rattle.orc_values.specs.Cells.{Cell};
 ghost use Rattle.orc_values.specs.Shapes.{Shape};
 ghost use Rattle.orc_rle.specs.Stream.{IsStream, RunsLeft};
@@ -37,7 +37,8 @@ pub struct ColumnSought {
 /// Returns the position in a stream of bytes or integers that two numbers give, and `None` for any other count of
 /// numbers.
 fn pos_of(positions: &[u64]) -> Option<Pos>
-    ensures { IfSome result (λ pos. positions.now ≡ pos.offset ∷ pos.skip ∷ []) }
+    ensures found { IfSome result (λ pos. positions.now ≡ pos.offset ∷ pos.skip ∷ []) }
+    ensures some { length positions.now ≡ 2 → IsSome result }
 {
     match positions {
         [offset, skip] => Some(Pos {
@@ -50,7 +51,8 @@ fn pos_of(positions: &[u64]) -> Option<Pos>
 
 /// Returns the position in a stream of booleans that three numbers give, and `None` for any other count of numbers.
 fn bit_pos_of(positions: &[u64]) -> Option<BitPos>
-    ensures { IfSome result (λ pos. positions.now ≡ pos.offset ∷ pos.skip ∷ pos.bits ∷ []) }
+    ensures found { IfSome result (λ pos. positions.now ≡ pos.offset ∷ pos.skip ∷ pos.bits ∷ []) }
+    ensures some { length positions.now ≡ 3 → IsSome result }
 {
     match positions {
         [offset, skip, bits] => Some(BitPos {
@@ -71,12 +73,13 @@ fn seek_version(
     run: &mut Run,
 ) -> Result<usize, RunFault>
     ensures counts { SeekCounts (is_run version sign) bytes.now pos.offset pos.skip run.old.count run.new.count }
-    ensures leads { IfOk result (λ at. (n : ℕ) (all : List ℤ)
+    ensures leads { (n : ℕ) (all : List ℤ)
         → Begins (is_run version sign) bytes.now pos.offset pos.skip n
         → IsStream (is_run version sign) bytes.now all
-        → RunsLeft (is_run version sign) run.new.values (drop at bytes.now) (drop n all)) }
+        → (at : ℕ) × (result ≡ Ok at)
+        × RunsLeft (is_run version sign) run.new.values (drop at bytes.now) (drop n all) }
 {
-    // each for its contract alone: after seeking a position come the values from the one that it names on
+    // each for its contract alone: a position that names a value can be sought, and then come the values from this one on
     seek_laws::<V1>();
     seek_laws::<V2>();
     match version {
@@ -93,7 +96,7 @@ fn seek_numbers(
     positions: &[u64],
 ) -> Result<Sought, RunFault>
     ensures { (n : ℕ) → IsOneRunPosition (number_runs version sign bytes.now) n positions.now
-        → IfOk result (IsSought (number_runs version sign bytes.now) n) }
+        → MatchResult result (IsSought (number_runs version sign bytes.now) n) (λ _. ⊥) }
 {
     let Some(pos) = pos_of(positions) else {
         return Err(RunFault::BadPosition(0));
@@ -108,9 +111,9 @@ fn seek_numbers(
 /// Goes to a position in a stream of bytes.
 fn seek_bytes(bytes: &[u8], positions: &[u64]) -> Result<Sought, RunFault>
     ensures { (n : ℕ) → IsOneRunPosition (byte_runs bytes.now) n positions.now
-        → IfOk result (IsSought (byte_runs bytes.now) n) }
+        → MatchResult result (IsSought (byte_runs bytes.now) n) (λ _. ⊥) }
 {
-    // for its contract alone: after seeking a position come the bytes from the one that it names on
+    // for its contract alone: a position that names a byte can be sought, and then come the bytes from this one on
     byte_seek_laws();
     let Some(pos) = pos_of(positions) else {
         return Err(RunFault::BadPosition(0));
@@ -125,9 +128,9 @@ fn seek_bytes(bytes: &[u8], positions: &[u64]) -> Result<Sought, RunFault>
 /// Goes to a position in a stream of booleans.
 fn seek_bits(bytes: &[u8], positions: &[u64]) -> Result<Sought, RunFault>
     ensures { (n : ℕ) → IsOneRunPosition (bit_runs bytes.now) n positions.now
-        → IfOk result (IsSought (bit_runs bytes.now) n) }
+        → MatchResult result (IsSought (bit_runs bytes.now) n) (λ _. ⊥) }
 {
-    // for its contract alone: after seeking a position come the booleans from the one that it names on
+    // for its contract alone: a position that names a boolean can be sought, and then come those from this one on
     bit_seek_laws();
     let Some(pos) = bit_pos_of(positions) else {
         return Err(RunFault::BadPosition(0));
@@ -142,7 +145,7 @@ fn seek_bits(bytes: &[u8], positions: &[u64]) -> Result<Sought, RunFault>
 /// Goes to a position in a stream of integers, bytes or booleans.
 fn seek_stream(stream: &RunBytes<'_>, positions: &[u64]) -> Result<Sought, RunFault>
     ensures { (n : ℕ) → IsOneRunPosition (runs stream.now) n positions.now
-        → IfOk result (IsSought (runs stream.now) n) }
+        → MatchResult result (IsSought (runs stream.now) n) (λ _. ⊥) }
 {
     match *stream {
         RunBytes::Nothing => Ok(Sought::Nothing),
@@ -177,7 +180,8 @@ pub(crate) fn seek_places(
     positions: &[u64],
 ) -> Result<ColumnSought, RunFault>
     ensures { (s : Shape) (x : Streams) (before : List Cell) → ArePlaced s x placed.now
-        → AreOneRunPositions s x before positions.now → IfOk result (IsColumnSought s x before) }
+        → AreOneRunPositions s x before positions.now
+        → MatchResult result (IsColumnSought s x before) (λ _. ⊥) }
 {
     let size = placed.present.position_size();
     if positions.len() < size {

@@ -1,37 +1,50 @@
 //! Callers of `writers_positions`. They go to the start of a row group in the streams of a column: in a file that was
 //! written, and in a file that two others were joined into.
-ghost use Rattle.std.specs.Prelude.{◌≡◌, ◌⊎◌, ◌<◌, ◌∷◌, [], ℕ, List, Option, Some, IfOk, IfErr};
+ghost use Rattle.std.specs.Prelude.{◌≡◌, ◌⊎◌, ◌<◌, ◌∷◌, [], ℕ, List, Option, Some, slice_get, IfOk, IfErr};
 ghost use Rattle.orc_values.specs.Cells.{Cell};
 ghost use Rattle.orc_values.specs.Shapes.{width, shape_at};
 ghost use Rattle.orc_values.specs.Views.{views};
+ghost use Rattle.orc_wire.specs.declared.row_index.RowIndexEntry.{RowIndexEntry as IndexEntry};
+ghost use Rattle.orc_wire.specs.declared.row_index.RowIndexMsg.{RowIndexMsg as IndexMessage};
 ghost use Rattle.orc_column_reader.specs.Stripe.{columns_of};
+ghost use Rattle.orc_directory.specs.declared.fault.StripeFault.TheVariants as stripe;
+ghost use Rattle.orc_stripe_reader.specs.RowIndexes.{HasIndex};
 ghost use Rattle.orc_row_index.specs.Walking.{ArePlaced};
 ghost use Rattle.orc_file_reader.specs.FileRows.{FileIs, rows_together};
 ghost use Rattle.orc_file_writer.specs.Writing.{WroteWholeFile};
 ghost use Rattle.orc_tail.specs.Caps.{no_cap};
 ghost use Rattle.orc_tail.specs.Tails.{IsTail};
 ghost use Rattle.orc_tail.specs.declared.tail.Tail.{Tail};
+ghost use Rattle.orc_tail.specs.declared.fault.FileFault.TheVariants as fault;
+ghost use Rattle.orc_check.specs.RightIndexes.{StartsAtGroups};
+ghost use Rattle.orc_merger.specs.Merging.{IsMerge};
 ghost use Rattle.orc_theorems.specs.Groupings.{MergedTo};
-ghost use Rattle.orc_theorems.specs.OneRunPositions.{ColumnReadsOneRun, ReadsOneRun};
-ghost use Rattle.orc_theorems.specs.Refusals.{IsWriteFault, IsSourceFault};
+ghost use Rattle.orc_theorems.specs.OneRunPositions.{AreOneRunPositions, ColumnReadsOneRun, ReadsOneRun};
+ghost use Rattle.orc_theorems.specs.Places.{IsPlace};
+ghost use Rattle.orc_theorems.specs.Refusals.{IsWriteFault, IsSourceFault, IsOutsideFiles};
 ghost use Rattle.orc_theorems.specs.RunsRead.{ReadOneEach};
 ghost use Rattle.orc_theorems.specs.SoughtGroups.{IsGroupSought, IsSoughtInFile, IsSoughtInWritten, IsSeekFault, IsJoinSeekFault};
 ghost use Rattle.orc_theorems.specs.WrittenIndexes.{AreIndexedAsWritten, WasWritten};
 
 use crate::fault::CallFault;
+use crate::groups_of_rows::reading_from_the_middle;
 use crate::memory::{join_two, opened};
+use crate::merged_findings::findings_of_merges;
 use crate::merging::merge_theorem;
 use crate::seeking::{ColumnSought, seek_places};
+use crate::written_files::written_files_read_back;
 use crate::written_files_calls::write_rows;
+use crate::written_findings::written_finding_laws;
 use crate::written_positions::writers_positions;
 use orc_column_reader::streams_of;
 use orc_directory::{Spot, StripeFault};
-use orc_file_reader::OrcFile;
+use orc_file_reader::{OrcFile, row_laws};
 use orc_io::Source;
+use orc_merge_laws::outcomes;
 use orc_row_batch::Options;
 use orc_row_index::{PlacedStreams, placed_streams};
 use orc_stripe_reader::StripeView;
-use orc_tail::{FileFault, tail_laws};
+use orc_tail::{FileFault, stripe_fault, tail_laws};
 use orc_types::Schema;
 use orc_values::{Row, tree_at};
 use std::alloc::Global;
@@ -45,6 +58,7 @@ fn streams_placed<'a>(
     ensures there { IfOk result (λ _. column < width view.now.schema) }
     ensures placed { IfOk result (ArePlaced (shape_at view.now.schema column)
         (columns_of view.now.footer view.now.bytes column)) }
+    ensures only { column < width view.now.schema → IfErr result (λ fault. fault ≡ stripe.OutOfMemory) }
 {
     let located = view.locate(alloc)?;
     let footer = view.footer();
@@ -62,9 +76,16 @@ fn seek_group(
     column: usize,
     group: usize,
 ) -> Result<ColumnSought, StripeFault>
-    ensures { (rows : List Cell)
+    ensures sought { (rows : List Cell)
         → (0 < view.now.stride → column < width view.now.schema → ColumnReadsOneRun view.now rows column)
         → IfOk result (IsGroupSought view.now rows column group) }
+    ensures only { (message : IndexMessage) (entry : IndexEntry) (before : List Cell)
+        → 0 < view.now.stride → column < width view.now.schema
+        → HasIndex view.now.footer view.now.bytes column message
+        → slice_get message.entries group ≡ Some entry
+        → AreOneRunPositions (shape_at view.now.schema column)
+        (columns_of view.now.footer view.now.bytes column) before entry.positions
+        → IfErr result (λ fault. fault ≡ stripe.OutOfMemory) }
 {
     let index = match view.index(alloc, column) {
         Ok(index) => index,
@@ -94,7 +115,15 @@ fn seek_in_stripe<S: Source>(
         → ReadsOneRun bytes file.old.tail rows
         → IfOk result (IsSoughtInFile bytes file.old.tail rows stripe column group) }
     ensures refused { file.old.cap ≡ no_cap → IfErr result (IsSeekFault file.old.tail stripe) }
+    ensures only { (bytes : List ℕ) (rows : List Cell)
+        → S.told file.old.source ≡ Some bytes → file.old.cap ≡ no_cap
+        → FileIs bytes file.old.tail rows
+        → ReadsOneRun bytes file.old.tail rows → StartsAtGroups bytes file.old.tail rows
+        → IsPlace file.old.tail stripe group → column < width file.old.tail.schema
+        → IfErr result IsSourceFault }
 {
+    // for its contract alone: a file's rows are those of its stripes
+    row_laws();
     if stripe >= file.tail().stripes.as_slice().len() {
         return Err(FileFault::BadStripe(stripe));
     }
@@ -103,7 +132,7 @@ fn seek_in_stripe<S: Source>(
     let view = file.view(alloc, stripe, &own)?;
     match seek_group(alloc, &view, column, group) {
         Ok(sought) => Ok(sought),
-        Err(cause) => Err(FileFault::Stripe(stripe, cause)),
+        Err(cause) => Err(stripe_fault(stripe, cause)),
     }
 }
 
@@ -120,6 +149,11 @@ fn seek_in_file(
         → ReadsOneRun bytes.now tail rows
         → IfOk result (IsSoughtInFile bytes.now tail rows stripe column group) }
     ensures refused { (tail : Tail) → IsTail bytes.now tail → IfErr result (IsSeekFault tail stripe) }
+    ensures only { (tail : Tail) (rows : List Cell)
+        → FileIs bytes.now tail rows
+        → ReadsOneRun bytes.now tail rows → StartsAtGroups bytes.now tail rows
+        → IsPlace tail stripe group → column < width tail.schema
+        → IfErr result IsSourceFault }
 {
     // for its contract alone: bytes have one tail
     tail_laws();
@@ -156,9 +190,19 @@ pub fn write_and_seek(
     ensures refused { IfErr result (λ e. IsWriteFault options schema (views rows.now) e
         ⊎ ((tail : Tail) × (first : Option (List ℕ)) × (told : Option (List ℕ))
         × WroteWholeFile options schema tail first told (views rows.now) × IsSeekFault tail stripe e)) }
+    // If the file that a writer writes of `rows` has the stripe, the group and the column, then an error is
+    // `SourceFailed` or one with which `write_to` may fail for `rows`.
+    ensures only { IfErr result (λ e. (tail : Tail) (first told : Option (List ℕ))
+        → WroteWholeFile options schema tail first told (views rows.now)
+        → IsPlace tail stripe group → column < width schema
+        → (e ≡ fault.SourceFailed) ⊎ IsWriteFault options schema (views rows.now) e) }
 {
-    // for its contract alone: from a writer's positions at most one run is read
+    // each for its contract alone: from a writer's positions at most one run is read, written files read back, and a
+    // file without findings starts at each of its groups
     writers_positions();
+    written_files_read_back();
+    written_finding_laws();
+    reading_from_the_middle();
     let file = write_rows(alloc, schema, options, rows)?;
     seek_in_file(alloc, &file.bytes, stripe, column, group)
 }
@@ -199,11 +243,23 @@ pub fn join_and_seek(
     // inputs. After an error in `File` the two files have a merged file, and the error is `BadStripe`, only if this has
     // no such stripe, `OutOfMemory`, `SourceFailed`, or `Stripe` with this stripe's number.
     ensures refused { IfErr result (IsJoinSeekFault first.now second.now stripe) }
+    // If `first` and `second` were written by `finish`, and have a merged file that has the stripe, the group and the
+    // column, then an error is `OutOfMemory`, `SourceFailed` or, of the merge, `WriteFailed`.
+    ensures only { (rows others : List Cell)
+        → WasWritten first.now rows
+        → WasWritten second.now others
+        → IfErr result (λ e. (tail : Tail) (out : List ℕ) → IsMerge (first.now ∷ second.now ∷ []) tail out
+        → IsPlace tail stripe group → column < width tail.schema
+        → IsOutsideFiles e) }
 {
-    // each for its contract alone: from a writer's positions at most one run is read, and a merged file opens with the
-    // merged tail
+    // each for its contract alone: from a writer's positions at most one run is read, a merged file opens with the
+    // merged tail, and a file that is merged of written ones starts at each of its groups
     writers_positions();
     merge_theorem();
+    outcomes();
+    written_finding_laws();
+    findings_of_merges();
+    reading_from_the_middle();
     match join_two(alloc, first, second) {
         Ok(joined) => match seek_in_file(alloc, &joined.bytes, stripe, column, group) {
             Ok(sought) => Ok(sought),

@@ -1,4 +1,5 @@
 use Rattle.std.proofs.Common.{◌≡◌, ◌∙◌, ℕ, List, length, ap, sym, subst, arith}
+use Rattle.std.proofs.lemmas.Result.{err_from_is_err_and}
 use Rattle.orc_wire.specs.declared.stripe_footer.StripeFooter.{StripeFooter}
 use Rattle.orc_values.specs.Shapes.{Shape, shape_at, width}
 use Rattle.orc_values.specs.Views.{shape}
@@ -33,3 +34,12 @@ streams_of-streams-requires-clause-located c =
 pub tree_at-requires-clause-there : goal.tree_at-requires-clause-there
 tree_at-requires-clause-there c =
     omega (arith, c.if-column-as_slice.false, ap length c.as_slice.ensures, ap (λ (f : StripeFooter). length f.columns) c.footer-footer.ensures.same, c.in_ok-located.ensures.columns, ap width c.tree.ensures)
+
+pub returns-in_err-located-clause-only : goal.returns-in_err-located-clause-only
+returns-in_err-located-clause-only c = λ below.
+    let p = err_from_is_err_and c.from_residual.result c.from_residual.ensures.1 in
+    rw (p.1, p.2) c.in_err-located.ensures.refused
+
+pub returns-then-column-as_slice-clause-only : goal.returns-then-column-as_slice-clause-only
+returns-then-column-as_slice-clause-only c = λ below.
+    absurd (omega (arith, below, c.if-column-as_slice.true, ap length c.as_slice.ensures, ap (λ (f : StripeFooter). length f.columns) c.footer-footer.ensures.same, c.in_ok-located.ensures.columns))
