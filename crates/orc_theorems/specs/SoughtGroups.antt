@@ -36,23 +36,23 @@ use Rattle.orc_theorems.specs.declared.seeking.ColumnSought.{ColumnSought}
 
 -- What is left of the run that was read last, followed by the values of the runs after it, are the stream's values from
 -- value n on. A stream of booleans has eight in a byte, and of the first byte those before value n are skipped.
-abbrev pub LeadsTo : RunStream → ℕ → Sought → Type 0
-LeadsTo no_stream n sought.Nothing = Unit {0}
-LeadsTo (byte_runs stream) n (sought.Bytes run) =
+abbrev pub HoldsFrom : RunStream → ℕ → Sought → Type 0
+HoldsFrom no_stream n sought.Nothing = Unit {0}
+HoldsFrom (byte_runs stream) n (sought.Bytes run) =
     (all : List ℕ) → IsStream IsByteRun stream all
     → (rest : List ℕ) × RunsLeft IsByteRun run.values rest (drop n all)
-LeadsTo (number_runs version sign stream) n (sought.Numbers run) =
+HoldsFrom (number_runs version sign stream) n (sought.Numbers run) =
     (all : List ℤ) → IsStream (is_run version sign) stream all
     → (rest : List ℕ) × RunsLeft (is_run version sign) run.values rest (drop n all)
-LeadsTo (bit_runs stream) n (sought.Bytes run) =
+HoldsFrom (bit_runs stream) n (sought.Bytes run) =
     (all : List Bool) → IsBitStream stream all → n ≤ length all
     → (rest : List ℕ) × BitsPending run.values rest (n % 8) (drop n all)
-LeadsTo _ n _ = ⊥
+HoldsFrom _ n _ = ⊥
 
 -- value n of a stream was found, and at most one run was read
 pub record IsSought (stream : RunStream) (n : ℕ) (found : Sought) : Type 0 where
   pub one_run : runs_read found ≤ 1
-  pub leads : LeadsTo stream n found
+  pub leads : HoldsFrom stream n found
 
 -- in each of a column's streams of runs the first value after these cells was found
 pub record IsColumnSought (s : Shape) (x : Streams) (before : List Cell) (found : ColumnSought) : Type 0 where

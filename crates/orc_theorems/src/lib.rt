@@ -44,4 +44,4 @@ pub use written_files::written_files_read_back;
 pub use written_files_calls::{ReadBack, is_written_of, write_and_open, write_and_read, write_to};
 pub use written_findings::written_finding_laws;
 pub use written_positions::writers_positions;
-pub use written_positions_calls::{join_and_seek, write_and_seek};
+pub use written_positions_calls::{join_and_seek, join_in_steps_and_seek, write_and_seek};

@@ -18,10 +18,12 @@ ghost use Rattle.orc_tail.specs.declared.tail.Tail.{Tail};
 ghost use Rattle.orc_tail.specs.declared.fault.FileFault.TheVariants as fault;
 ghost use Rattle.orc_check.specs.RightIndexes.{StartsAtGroups};
 ghost use Rattle.orc_merger.specs.Merging.{IsMerge};
-ghost use Rattle.orc_theorems.specs.Groupings.{MergedTo};
+ghost use Rattle.orc_merge_laws.specs.Grouping.{Wrote};
+ghost use Rattle.orc_theorems.specs.Groupings.{MergedTo, first_two};
+ghost use Rattle.orc_theorems.specs.Inputs.{AreWithoutFinding};
 ghost use Rattle.orc_theorems.specs.OneRunPositions.{AreOneRunPositions, ColumnReadsOneRun, ReadsOneRun};
 ghost use Rattle.orc_theorems.specs.Places.{IsPlace};
-ghost use Rattle.orc_theorems.specs.Refusals.{IsWriteFault, IsSourceFault, IsOutsideFiles};
+ghost use Rattle.orc_theorems.specs.Refusals.{IsWriteFault, IsSourceFault, IsOutsideFiles, IsStepsFault};
 ghost use Rattle.orc_theorems.specs.RunsRead.{ReadOneEach};
 ghost use Rattle.orc_theorems.specs.SoughtGroups.{IsGroupSought, IsSoughtInFile, IsSoughtInWritten, IsSeekFault, IsJoinSeekFault};
 ghost use Rattle.orc_theorems.specs.WrittenIndexes.{AreIndexedAsWritten, WasWritten};
@@ -31,6 +33,7 @@ use crate::groups_of_rows::reading_from_the_middle;
 use crate::memory::{join_two, opened};
 use crate::merged_findings::findings_of_merges;
 use crate::merging::merge_theorem;
+use crate::merging_calls::join_in_steps;
 use crate::seeking::{ColumnSought, seek_places};
 use crate::written_files::written_files_read_back;
 use crate::written_files_calls::write_rows;
@@ -262,6 +265,62 @@ pub fn join_and_seek(
     reading_from_the_middle();
     match join_two(alloc, first, second) {
         Ok(joined) => match seek_in_file(alloc, &joined.bytes, stripe, column, group) {
+            Ok(sought) => Ok(sought),
+            Err(fault) => Err(CallFault::File(fault)),
+        },
+        Err(fault) => Err(CallFault::Merge(fault)),
+    }
+}
+
+/// Joins three files in two steps, as `join_in_steps` does, opens the joined file, and goes to the start of a row group
+/// in the streams of a column of a stripe. If the three files have a writer's row indexes, then this reads at most one
+/// run in each stream, by clause `grouped` of `writers_positions`. If they have no findings either, then a group that
+/// the joined file has is found, by clause `merged` of `reading_from_the_middle`.
+///
+/// # Errors
+///
+/// - `BadStripe` if the joined file has no such stripe.
+/// - `Stripe` with `NoIndex` or `BadPosition` if the stride is 0, or if the stripe has no such column or group.
+/// - Those of `merge`, and of opening the joined file and loading the stripe.
+pub fn join_in_steps_and_seek(
+    alloc: Global,
+    first: &[u8],
+    second: &[u8],
+    third: &[u8],
+    stripe: usize,
+    column: usize,
+    group: usize,
+) -> Result<ColumnSought, CallFault>
+    // If the call succeeds, and the three files are files with rows whose row indexes are as a writer writes them, then
+    // the two steps wrote a file with all these rows, in order, and it has the stripe, the column and the group. In each
+    // of the column's streams of runs at most one run was read, and the values that are left of it, followed by those of
+    // the runs after it, are the stream's values from the group's first value on.
+    ensures sought { (parts : List (List Cell))
+        → AreIndexedAsWritten (first.now ∷ second.now ∷ third.now ∷ []) parts
+        → IfOk result (λ found. (out : List ℕ) × (tail : Tail)
+        × Wrote (first_two first.now second.now third.now) out × FileIs out tail (rows_together parts)
+        × IsSoughtInFile out tail (rows_together parts) stripe column group found) }
+    // If the three files are files with rows whose row indexes are as a writer writes them, and without findings, and
+    // the file that the two steps write has the stripe, the group and the column, then an error in `File` is
+    // `OutOfMemory` or `SourceFailed`. An error in `Merge` is `SourceFailed`, `WriteFailed`, `OutOfMemory`, or the first
+    // fault of the inputs of one of the two merges.
+    ensures only { (parts : List (List Cell))
+        → AreIndexedAsWritten (first.now ∷ second.now ∷ third.now ∷ []) parts
+        → AreWithoutFinding (first.now ∷ second.now ∷ third.now ∷ []) parts
+        → IfErr result (λ e. (tail : Tail) (out : List ℕ)
+        → Wrote (first_two first.now second.now third.now) out → IsTail out tail
+        → IsPlace tail stripe group → column < width tail.schema
+        → IsStepsFault first.now second.now third.now e) }
+{
+    // each for its contract alone: a grouping keeps a writer's row indexes, and what it writes starts at each of its
+    // groups; all groupings write the same bytes, and bytes are a file of one tail and one list of rows
+    writers_positions();
+    reading_from_the_middle();
+    merge_theorem();
+    tail_laws();
+    row_laws();
+    match join_in_steps(alloc, first, second, third) {
+        Ok(steps) => match seek_in_file(alloc, &steps.bytes, stripe, column, group) {
             Ok(sought) => Ok(sought),
             Err(fault) => Err(CallFault::File(fault)),
         },
