@@ -1,5 +1,5 @@
 -- The rows of one stripe, all of them or those from a group on: what is out of their lines, and why no more.
-use Rattle.std.proofs.Common.{◌≡◌, ◌≢◌, ◌∙◌, ℕ, ◌*◌, ◌⊎◌, inl, inr, List, [], drop, Option, Some, None, true, false, Result, Ok, Err, refl, sym, ap, subst, append-nil}
+use Rattle.std.proofs.Common.{◌≡◌, ◌≢◌, ◌∙◌, ℕ, ◌*◌, ◌⊎◌, inl, inr, List, [], drop, Option, Some, None, true, Result, Ok, Err, refl, sym, ap, subst, append-nil}
 use Rattle.std.specs.Option.{IfSome}
 use Rattle.std.specs.Prelude.{IfOk, IfErr, OnOk, OnErr, MatchResult}
 use Rattle.std.specs.Io.KnownBytes.{Appends, Keeps}
@@ -7,7 +7,6 @@ use Rattle.orc_wire.specs.declared.stripe_footer.StripeFooter.{StripeFooter}
 use Rattle.orc_values.specs.Cells.{Cell}
 use Rattle.orc_values.specs.Fits.{RowsFit}
 use Rattle.orc_json_rows.specs.FieldNames.{is_distinct}
-use Rattle.orc_json_rows.specs.declared.json_fault.JsonFault.TheVariants as json
 use Rattle.orc_json_printer.specs.Texts.{Prints}
 use Rattle.orc_column_reader.specs.Faults.{RowsFault}
 use Rattle.orc_column_reader.specs.Stripe.{Streams, HasFooter, SpellRows, columns_of}
@@ -27,7 +26,7 @@ use Rattle.orc_tail.specs.declared.tail.Tail.{Tail}
 use Rattle.orc_file_reader.specs.FileRows.{opened_stripe, IsNoStripe}
 use Rattle.orc_cli_output.specs.Output.{write_failed, AppendsPart, IsWantOfMemory}
 use Rattle.orc_cli_output.specs.declared.fault.CliFault.{CliFault}
-use Rattle.orc_cli_output.specs.declared.fault.CliFault.TheVariants.{File, Json}
+use Rattle.orc_cli_output.specs.declared.fault.CliFault.TheVariants.{File}
 use Rattle.orc_cli_rows.specs.Rows.{AreOfStripe, HasNoJson}
 use Rattle.orc_cli_rows.specs.FromGroup.{AreRowsFrom, AreFromGroup, StopsFrom, StopsAtGroup}
 use Rattle.orc_cli_rows.specs.Pieces.{text_lines}
@@ -126,12 +125,6 @@ pub no_rows : (view : Opened) (from : Option ℕ) (n : ℕ) (why : StripeFault) 
     → HasNoLines view from n (File fault)
 no_rows view from n why fault (inl h) so = inl (inl (ap File h.1))
 no_rows view from n why fault (inr h) so = inr (inl (why, ap File h.1, h.0, so h.0))
-
--- rows that are made aren't printed
-pub not_printed : (view : Opened) (from : Option ℕ) (n : ℕ) (rows : List Cell) (fault : CliFault) → AreRowsOf view from rows
-    → ((fault ≡ Json json.DuplicateField) × (rows ≢ []) × (is_distinct view.schema ≡ false)) ⊎ IsWantOfMemory fault → HasNoLines view from n fault
-not_printed view from n rows fault are (inl h) = inr (inr (h.0, record { rows = rows; are = are; some = h.1; twice = h.2 }))
-not_printed view from n rows fault are (inr want) = inl want
 
 -- ---- the stripe of a file
 

@@ -4,7 +4,7 @@ ghost use Rattle.orc_values.specs.Cells.{Cell};
 ghost use Rattle.orc_json_rows.specs.FieldNames.{is_distinct};
 ghost use Rattle.orc_column_reader.specs.Stripe.{IsStripe};
 ghost use Rattle.orc_directory.specs.declared.fault.StripeFault.TheVariants.{OutOfMemory};
-ghost use Rattle.orc_column_text.specs.LaidOut.{IsLaidOut};
+ghost use Rattle.orc_json_printer.specs.LaidOut.{IsLaidOut};
 ghost use Rattle.orc_file_reader.specs.FileRows.{IsNoStripe};
 ghost use Rattle.orc_cli_rows.specs.Rows.{RefusesRows};
 ghost use Rattle.orc_cli_rows.specs.FromGroup.{AreRowsFrom, StopsFrom};
@@ -12,7 +12,7 @@ ghost use Rattle.orc_cli_rows.specs.OneStripe.{IsOpened, AreRowsOf, HasNoRows, H
 
 use crate::lines::put_lines;
 use crate::nowhere::Nowhere;
-use crate::reading::rows_of;
+use crate::reading::rows_from;
 use orc_cli_output::CliFault;
 use orc_column_walk::walk_columns;
 use orc_directory::StripeFault;
@@ -81,7 +81,7 @@ pub(crate) fn judge(
     }
 }
 
-/// Reads the rows of a type for which there is no layout.
+/// Reads the rows of a type that has no JSON.
 fn read_rows(alloc: Global, view: &StripeView<'_>, from: Option<u32>) -> Result<(), StripeFault>
     requires opened { IsOpened view.now }
     ensures found { OnOk result ((rows : List Cell) × AreRowsOf view.now from rows) }
@@ -89,7 +89,7 @@ fn read_rows(alloc: Global, view: &StripeView<'_>, from: Option<u32>) -> Result<
 {
     match from {
         None => walk(alloc, view),
-        Some(_) => match rows_of(alloc, view, from) {
+        Some(group) => match rows_from(alloc, view, group) {
             Ok(_) => Ok(()),
             Err(why) => Err(why),
         },

@@ -1,64 +1,18 @@
-//! The lines of rows that are there, and of those that a cursor has still to give.
-ghost use Rattle.std.specs.Prelude.{◌≡◌, ◌≢◌, ◌++◌, ◌⊎◌, [], List, IfOk, OnOk, IfErr, MatchResult, true, false};
-ghost use Rattle.orc_json_rows.specs.FieldNames.{is_distinct};
+//! The lines of the rows that a cursor has still to give.
+ghost use Rattle.std.specs.Prelude.{◌≡◌, ◌≢◌, List, IfOk, OnOk, IfErr, MatchResult, true, false};
 ghost use Rattle.orc_values.specs.Cells.{Cell};
-ghost use Rattle.orc_values.specs.Fits.{RowsFit, fits};
-ghost use Rattle.orc_values.specs.Views.{view, views};
-ghost use Rattle.orc_json_rows.specs.declared.json_fault.JsonFault.TheVariants as json;
-ghost use Rattle.orc_cli_output.specs.Output.{IsWantOfMemory};
-ghost use Rattle.orc_cli_output.specs.declared.fault.CliFault.TheVariants.{Json};
 ghost use Rattle.orc_directory.specs.declared.fault.StripeFault.TheVariants.{OutOfMemory, Failed};
-ghost use Rattle.orc_column_text.specs.LaidOut.{IsLaidOut};
+ghost use Rattle.orc_json_printer.specs.LaidOut.{IsLaidOut};
 ghost use Rattle.orc_json_printer.specs.Layouts.{text_by};
 ghost use Rattle.orc_json_printer.specs.Outputs.{Puts};
 ghost use Rattle.orc_stripe_reader.specs.Cursors.{row_type, IsGoing, StandsFor, MeetsFault};
 ghost use Rattle.orc_cli_rows.specs.Pieces.{text_lines, IsHeld, PutsAll, PutsFront};
-ghost use Rattle.orc_cli_rows.specs.Rows.{row_line, row_lines, HaveJson, RefusesRows};
 
 use crate::held::Held;
-use orc_cli_output::CliFault;
 use orc_directory::StripeFault;
-use orc_json::RowPrinter;
 use orc_json_printer::TextOutput;
 use orc_json_printer::layout::Layout;
 use orc_stripe_reader::RowCursor;
-use orc_values::Row;
-use std::alloc::Global;
-
-/// Puts the line of a row behind others. What is put there of a row that isn't one of the schema is left open.
-fn push_line(printer: &RowPrinter, row: &Row<'_>, lines: &mut Vec<u8>) -> Result<(), CliFault>
-    ensures found { fits (view row.now) printer.now ≡ true
-        → OnOk result (lines.new.items ≡ lines.old.items ++ row_line printer.now (view row.now)) }
-    ensures distinct { OnOk result (is_distinct printer.now ≡ true) }
-    ensures fault { IfErr result (λ fault. ((fault ≡ Json json.DuplicateField) × (is_distinct printer.now ≡ false))
-        ⊎ IsWantOfMemory fault) }
-    ensures layer { IfErr result RefusesRows }
-{
-    printer.push_row(row, lines)?;
-    lines.extend_from_slice(b"\n")?;
-    Ok(())
-}
-
-/// The lines of rows.
-pub(crate) fn lines_of(
-    alloc: Global,
-    printer: &RowPrinter,
-    rows: &[Row<'_>],
-) -> Result<Vec<u8>, CliFault>
-    requires { RowsFit printer.now (views rows.now) }
-    ensures found { IfOk result (λ lines. lines.items ≡ row_lines printer.now (views rows.now)) }
-    ensures json { OnOk result (HaveJson printer.now (views rows.now)) }
-    ensures fault { IfErr result (λ fault.
-        ((fault ≡ Json json.DuplicateField) × (views rows.now ≢ []) × (is_distinct printer.now ≡ false))
-        ⊎ IsWantOfMemory fault) }
-    ensures layer { IfErr result RefusesRows }
-{
-    let mut lines = Vec::new(alloc);
-    for row in rows {
-        push_line(printer, row, &mut lines)?;
-    }
-    Ok(lines)
-}
 
 /// Puts the lines of the rows that a cursor has still to give, as they are read. Once a device has failed, the rows behind
 /// are not read, as what is put is dropped.

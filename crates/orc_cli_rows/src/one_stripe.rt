@@ -3,9 +3,9 @@ ghost use Rattle.std.specs.Prelude.{◌≡◌, ◌++◌, true, false, List, IfOk
 ghost use Rattle.std.specs.Io.KnownBytes.{Appends};
 ghost use Rattle.orc_values.specs.Cells.{Cell};
 ghost use Rattle.orc_json_rows.specs.FieldNames.{is_distinct};
+ghost use Rattle.orc_json_printer.specs.LaidOut.{IsLaidOut};
 ghost use Rattle.orc_json_printer.specs.Layouts.{text_by};
 ghost use Rattle.orc_json_printer.specs.Texts.{Prints};
-ghost use Rattle.orc_column_text.specs.LaidOut.{IsLaidOut};
 ghost use Rattle.orc_stripe_reader.specs.Cursors.{row_type, StandsFor};
 ghost use Rattle.orc_cli_output.specs.Output.{write_failed, AppendsPart};
 ghost use Rattle.orc_cli_rows.specs.Rows.{RefusesRows};
@@ -15,13 +15,12 @@ ghost use Rattle.orc_cli_rows.specs.Plans.{IsPlanOf};
 
 use crate::held::Held;
 use crate::judging::{judge, refuse_names};
-use crate::lines::{hold_lines, lines_of, put_lines};
+use crate::lines::{hold_lines, put_lines};
 use crate::pieces::Pieces;
 use crate::plan::Plan;
-use crate::reading::{cursor_of, rows_of};
+use crate::reading::cursor_of;
 use orc_cli_output::{CliFault, write_out};
 use orc_directory::StripeFault;
-use orc_json::RowPrinter;
 use orc_json_printer::TextOutput;
 use orc_json_printer::layout::Layout;
 use orc_stripe_reader::{RowCursor, StripeView};
@@ -158,29 +157,6 @@ fn print_read<W: Write>(
     print_judged(alloc, number, view, from, layout, out)
 }
 
-/// Prints the lines of the stripe with this number, whose rows are made first.
-fn print_made<W: Write>(
-    alloc: Global,
-    printer: &RowPrinter,
-    number: usize,
-    view: &StripeView<'_>,
-    from: Option<u32>,
-    out: &mut W,
-) -> Result<(), CliFault>
-    requires opened { IsOpened view.now }
-    requires of_schema { printer.now ≡ view.now.schema }
-    ensures written { OnOk result (IsPrinted view.now from (W.contents out.old) (W.contents out.new)) }
-    ensures refused { IfErr result (EndsWithin view.now from number (W.contents out.old) (W.contents out.new)) }
-    ensures layer { IfErr result RefusesRows }
-{
-    let rows = match rows_of(alloc, view, from) {
-        Ok(rows) => rows,
-        Err(why) => return Err(CliFault::File(stripe_fault(number, why))),
-    };
-    let lines = lines_of(alloc, printer, &rows)?;
-    write_out(out, &lines)
-}
-
 /// Prints the lines of the stripe with this number, or of its rows from a group on, by a plan.
 pub(crate) fn print_view<W: Write>(
     alloc: Global,
@@ -198,7 +174,6 @@ pub(crate) fn print_view<W: Write>(
 {
     match plan {
         Plan::Straight(layout) => print_read(alloc, number, view, from, layout, out),
-        Plan::Made(printer) => print_made(alloc, printer, number, view, from, out),
         Plan::Refused => refuse_names(alloc, number, view, from),
     }
 }

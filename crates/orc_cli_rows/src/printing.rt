@@ -121,8 +121,7 @@ fn print_opened<S: Source, W: Write>(
     ensures layer { IfErr result RefusesRows }
 {
     let printer = RowPrinter::new(alloc, file.schema())?;
-    let plan = plan_of(&printer, file.schema());
-    print_lines(alloc, file, plan, start, out)
+    print_lines(alloc, file, plan_of(&printer), start, out)
 }
 
 /// What is printed of a file from a place on, or all of it.

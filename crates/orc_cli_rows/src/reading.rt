@@ -1,4 +1,4 @@
-//! The rows of an opened stripe, all of them or those from a group on.
+//! The rows of an opened stripe: a cursor at the first of them or at a group, or those from a group on.
 ghost use Rattle.std.specs.Prelude.{◌≡◌, ◌≢◌, List, IfOk, IfErr};
 ghost use Rattle.orc_values.specs.Cells.{Cell};
 ghost use Rattle.orc_values.specs.Views.{views};
@@ -13,7 +13,7 @@ use orc_values::Row;
 use std::alloc::Global;
 
 /// The rows from a group on.
-fn rows_from<'a>(
+pub(crate) fn rows_from<'a>(
     alloc: Global,
     view: &StripeView<'a>,
     group: u32,
@@ -27,23 +27,7 @@ fn rows_from<'a>(
     }
 }
 
-/// The stripe's rows, or those from a group on.
-pub(crate) fn rows_of<'a>(
-    alloc: Global,
-    view: &StripeView<'a>,
-    from: Option<u32>,
-) -> Result<Vec<Row<'a>>, StripeFault>
-    requires opened { IsOpened view.now }
-    ensures found { IfOk result (λ rows. AreRowsOf view.now from (views rows.items)) }
-    ensures fault { IfErr result (λ why. why ≢ OutOfMemory → HasNoRows view.now from why) }
-{
-    match from {
-        None => view.rows(alloc),
-        Some(group) => rows_from(alloc, view, group),
-    }
-}
-
-/// A cursor at the first of them.
+/// A cursor at the first row of the stripe, or at the first from a group on.
 pub(crate) fn cursor_of<'a>(
     alloc: Global,
     view: &StripeView<'a>,

@@ -1,10 +1,9 @@
-//! What no command line shows of `orc_json`: rows of borrowed values behind others in the same output,
-//! what stands there after a refusal, and a reader that reads on after one. Which text a row has, and which row a text
-//! spells, is said by the cases of the program and by the vectors; what is said here of rows that are read over others is that no
-//! old row has a part in them.
+//! What no command line shows of `orc_json`: that a schema with a field's name twice has no layout, and a reader that reads on
+//! after a refusal. Which text a row has, and which row a text spells, is said by the cases of the program and by the vectors;
+//! what is said here of rows that are read over others is that no old row has a part in them.
 use crate::assertions::demand_of;
 use orc_json::{RowPrinter, RowReader};
-use orc_types::{JsonFault, Schema, fits};
+use orc_types::{JsonFault, Schema, fits, row_to_json};
 use orc_values::{Row, Value};
 use std::alloc::{AllocError, Global};
 use std::borrow::{CowSlice, CowStr};
@@ -17,9 +16,12 @@ fn schema_of(alloc: Global, text: &str) -> Result<Schema, JsonFault> {
     }
 }
 
-/// Appends the text of a row. It has no contract, so that what the printer's says is no part of each caller's proof.
-fn append(printer: &RowPrinter, row: &Row<'_>, out: &mut Vec<u8>) -> Result<(), JsonFault> {
-    printer.push_row(row, out)
+/// The line of a row, which is refused as `WrongShape` if it doesn't fit.
+fn line_of(alloc: Global, schema: &Schema, row: &Row<'_>) -> Result<String, JsonFault> {
+    if !fits(schema, row) {
+        return Err(JsonFault::WrongShape);
+    }
+    Ok(row_to_json(alloc, schema, row)?.to_string(alloc)?)
 }
 
 /// A row of borrowed values.
@@ -30,48 +32,29 @@ fn borrowed_row(alloc: Global) -> Result<Row<'static>, AllocError> {
     Ok(Some(Value::Struct(values)))
 }
 
-/// Appends the row, null, and the row again.
-fn append_thrice(printer: &RowPrinter, row: &Row<'_>, out: &mut Vec<u8>) -> Result<(), JsonFault> {
-    append(printer, row, out)?;
-    append(printer, &None, out)?;
-    append(printer, row, out)
-}
-
-/// What they are printed as, one behind another by the same printer.
-fn printed_thrice(alloc: Global, schema: &Schema, row: &Row<'_>) -> Result<Vec<u8>, JsonFault> {
-    let printer = RowPrinter::new(alloc, schema)?;
-    let mut out = Vec::new(alloc);
-    append_thrice(&printer, row, &mut out)?;
-    Ok(out)
-}
-
-/// A row of borrowed values fits, and is printed behind itself and null.
-fn borrowed_rows_hold(alloc: Global) -> Result<bool, JsonFault> {
+/// A row of borrowed values fits, and has its line.
+fn borrowed_row_holds(alloc: Global) -> Result<bool, JsonFault> {
     let schema = schema_of(alloc, "struct<t:string,b:binary>")?;
     let row = borrowed_row(alloc)?;
-    if !fits(&schema, &row) {
-        return Ok(false);
-    }
-    let wanted = r#"{"b":"0f","t":"a\tb"}null{"b":"0f","t":"a\tb"}"#;
-    Ok(printed_thrice(alloc, &schema, &row)?.as_slice() == wanted.as_bytes())
+    Ok(line_of(alloc, &schema, &row)?.as_str() == r#"{"b":"0f","t":"a\tb"}"#)
 }
 
 #[test]
 fn borrowed_rows(rt: HostRuntime) {
     let alloc = rt.alloc();
-    demand_of(&rt, borrowed_rows_hold(alloc), &"a borrowed row");
+    demand_of(
+        &rt,
+        borrowed_row_holds(alloc),
+        &"a borrowed row",
+    );
 }
 
-/// What stands before the rows.
-const BEFORE: &str = "[";
-
-/// Whether a row of such a schema is refused, and what was printed before stays as it was.
+/// Whether such a schema has no layout, and its rows have no line, not even null.
 fn refuses_twice(alloc: Global, schema: &str) -> Result<bool, JsonFault> {
     let schema = schema_of(alloc, schema)?;
     let printer = RowPrinter::new(alloc, &schema)?;
-    let mut out = BEFORE.as_bytes().to_vec(alloc)?;
-    let refused = append(&printer, &None, &mut out);
-    Ok(matches!(refused, Err(JsonFault::DuplicateField)) && out.as_slice() == BEFORE.as_bytes())
+    let line = line_of(alloc, &schema, &None);
+    Ok(printer.layout().is_none() && matches!(line, Err(JsonFault::DuplicateField)))
 }
 
 #[test]
@@ -84,20 +67,6 @@ fn names_twice(rt: HostRuntime) {
     );
 }
 
-/// What the row that a text spells is printed as.
-fn printed(
-    alloc: Global,
-    schema: &Schema,
-    reader: &mut RowReader,
-    text: &str,
-) -> Result<Vec<u8>, JsonFault> {
-    let row = reader.read_row(alloc, schema, text.as_bytes())?;
-    let printer = RowPrinter::new(alloc, schema)?;
-    let mut out = Vec::new(alloc);
-    append(&printer, &row, &mut out)?;
-    Ok(out)
-}
-
 /// Whether a text, which is more than a line, spells the row of this line.
 fn is_read_as(
     alloc: Global,
@@ -106,7 +75,8 @@ fn is_read_as(
     text: &str,
     line: &str,
 ) -> Result<bool, JsonFault> {
-    Ok(printed(alloc, schema, reader, text)?.as_slice() == line.as_bytes())
+    let row = reader.read_row(alloc, schema, text.as_bytes())?;
+    Ok(line_of(alloc, schema, &row)?.as_str() == line)
 }
 
 /// Whether a text is no JSON.
@@ -191,15 +161,12 @@ fn row_or_null(
     }
 }
 
-/// Whether a row of a case is printed as the case says.
-fn is_printed(alloc: Global, case: &str, row: &Row<'_>) -> Result<bool, JsonFault> {
+/// Whether a row of a case has the line that the case says.
+fn has_line(alloc: Global, case: &str, row: &Row<'_>) -> Result<bool, JsonFault> {
     let (schema, texts) = case.split_once(" ").unwrap_or((case, ""));
     let (_, line) = texts.split_once(" ").unwrap_or((texts, ""));
     let schema = schema_of(alloc, schema)?;
-    let printer = RowPrinter::new(alloc, &schema)?;
-    let mut out = Vec::new(alloc);
-    append(&printer, row, &mut out)?;
-    Ok(out.as_slice() == line.as_bytes())
+    Ok(line_of(alloc, &schema, row)?.as_str() == line)
 }
 
 /// Whether a case is read over the row of another as it says, a refusal included.
@@ -213,7 +180,7 @@ fn is_read_over(
     match row_over(alloc, reader, case, spare) {
         Err(JsonFault::WrongShape) => Ok(case.ends_with(",\"b\":2}") || case.ends_with(",3]}")),
         Err(fault) => Err(fault),
-        Ok(row) => is_printed(alloc, case, &row),
+        Ok(row) => has_line(alloc, case, &row),
     }
 }
 
@@ -232,7 +199,11 @@ fn rows_over_others(rt: HostRuntime) {
     let alloc = rt.alloc();
     let mut reader = RowReader::new(alloc);
     for old in ROWS.lines() {
-        demand_of(&rt, are_read_over(alloc, &mut reader, old), &old);
+        demand_of(
+            &rt,
+            are_read_over(alloc, &mut reader, old),
+            &old,
+        );
     }
 }
 
@@ -252,7 +223,7 @@ fn are_read_in_turn(
         }
     }
     // the last case's
-    is_printed(alloc, ROWS.lines().last().unwrap_or(""), &row)
+    has_line(alloc, ROWS.lines().last().unwrap_or(""), &row)
 }
 
 #[test]

@@ -15,13 +15,13 @@ use Rattle.orc_column_reader.specs.declared.column.ColumnReader.{ColumnReader}
 use Rattle.orc_directory.specs.declared.fault.StripeFault.{StripeFault}
 use Rattle.orc_row_reader.proofs.Arms.{fields_none, fields_lack_first, fields_lack_others}
 use Rattle.orc_column_reader.proofs.Fronts.{fielded_leaves}
+use Rattle.orc_json_printer.specs.LaidOut.{count_of, AreColumnsOf, member_of, AreMembersOf}
 use Rattle.orc_json_printer.specs.Layouts.{LaidMember, parts_text}
 use Rattle.orc_json_printer.specs.Outputs.{Puts}
 use Rattle.orc_json_printer.proofs.Outputs.{puts_then, puts_is}
 use Rattle.orc_json_printer.specs.declared.layout.FieldColumns.{FieldColumns}
-use Rattle.orc_column_text.specs.LaidOut.{count_of}
 use Rattle.orc_column_text.specs.Taken.{Printed}
-use Rattle.orc_column_text.specs.Regions.{field_at, columns_before, readers_at, AreColumnsOf, member_of, AreMembersOf, GaveCell, PrintedMember}
+use Rattle.orc_column_text.specs.Regions.{field_at, columns_before, readers_at, GaveCell, PrintedMember}
 
 -- ---- the columns of the fields
 

@@ -12,6 +12,7 @@ use Rattle.orc_column_reader.specs.Fronts.{Lacks}
 use Rattle.orc_column_reader.specs.ReaderFaults.{CellsMeet, FieldsMeet}
 use Rattle.orc_column_reader.specs.declared.column.ColumnReader.{ColumnReader}
 use Rattle.orc_directory.specs.declared.fault.StripeFault.{StripeFault}
+use Rattle.orc_json_printer.specs.LaidOut.{count_of, AreColumnsOf, member_of, AreMembersOf}
 use Rattle.orc_json_printer.specs.Layouts.{LaidMember, part, member_parts, text_by}
 use Rattle.orc_json_printer.specs.declared.layout.FieldColumns.{FieldColumns}
 use Rattle.orc_json_printer.specs.declared.layout.Member.{Member}
@@ -19,8 +20,7 @@ use Rattle.orc_json_printer.specs.Outputs.{Puts}
 use Rattle.orc_json_printer.proofs.Outputs.{puts_then}
 use Rattle.orc_json_printer.proofs.Layouts.{part-is}
 use Rattle.orc_column_text.specs.Taken.{Printed}
-use Rattle.orc_column_text.specs.Regions.{field_at, columns_before, readers_at, AreColumnsOf, member_of, AreMembersOf, GaveCell, PrintedMember}
-use Rattle.orc_column_text.specs.LaidOut.{count_of}
+use Rattle.orc_column_text.specs.Regions.{field_at, columns_before, readers_at, GaveCell, PrintedMember}
 use Rattle.orc_column_text.proofs.AnyOrder.{region_within, columns_many, Reading, reading_next, reading_lacks, reading_meets}
 
 -- a member as what is printed of it

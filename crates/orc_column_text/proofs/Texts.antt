@@ -1,17 +1,16 @@
 -- Texts of cells, one after the other, and by layouts.
-use Rattle.std.proofs.Common.{rules, ◌≡◌, ℕ, ◌+◌, ◌≤◌, ◌-◌, List, [], ◌∷◌, ◌++◌, Bool, true, false, length, take, drop, get_or, Vec, Box, Global, refl, sym, ap, ◌∙◌, arith, append_assoc, append-nil}
-use Rattle.std.proofs.Math.Seq.{take-length}
+use Rattle.std.proofs.Common.{rules, ◌≡◌, ℕ, List, [], ◌∷◌, ◌++◌, Bool, true, false, Vec, Box, Global, refl, sym, ap, ◌∙◌, append_assoc, append-nil}
 use Rattle.serde_json.specs.Written.{comma_if}
 use Rattle.orc_values.specs.Cells.{Cell, null, list, struct, pairs, cells_of, pairs_of}
 use Rattle.orc_values.proofs.Views.{list_of_cells-cells_of, list_of_pairs-pairs_of}
-use Rattle.orc_json_printer.specs.Layouts.{LaidMember, PairTexts, text_by, part, member_parts, layout_step, null_text, elements_text, parts_text, pair_text, pair_texts, pairs_text}
+use Rattle.orc_json_printer.specs.Layouts.{LaidMember, PairTexts, text_by, member_parts, layout_step, null_text, elements_text, parts_text, pair_text, pair_texts, pairs_text}
 use Rattle.orc_json_printer.specs.declared.layout.Layout.{Layout, List as ListOf, Map as MapLayout, Struct}
 use Rattle.orc_json_printer.specs.declared.layout.Layout.TheFolds.{the_lemmas}
 use Rattle.orc_json_printer.specs.declared.layout.Layout.TheOpen.{Layout-F}
 use Rattle.orc_json_printer.specs.declared.layout.Member.{Member}
 use Rattle.orc_json_printer.specs.declared.layout.FieldColumns.{FieldColumns}
 use Rattle.orc_json_printer.specs.declared.layout.PairLayout.{PairLayout}
-use Rattle.orc_json_printer.proofs.Layouts.{text_by-List, text_by-Map, text_by-Struct, part-is}
+use Rattle.orc_json_printer.proofs.Layouts.{text_by-List, text_by-Map, text_by-Struct}
 use Rattle.orc_column_text.specs.Texts.{comma_texts}
 
 -- ---- null
@@ -81,20 +80,3 @@ map_printed l b ps is =
 pub struct_printed : (l : Layout) (ms : Vec Member Global) (xs : Vec FieldColumns Global) (cs : List Cell) → l ≡ Struct ms xs → text_by l (struct (cells_of cs)) ≡ 123 ∷ parts_text (member_parts ms.items) cs
 struct_printed l ms xs cs is =
     rw (is, text_by-Struct ms xs) (ap (λ (ds : List Cell). 123 ∷ parts_text (member_parts ms.items) ds) (list_of_cells-cells_of cs))
-
--- the first member and those behind it
-pub first_member : (ms : List Member) (m : Member) → 1 ≤ length ms → m ≡ get_or ms 0 m
-    → member_parts ms ≡ (record { key = m.key.items; place = m.place; text = text_by m.layout }) ∷ member_parts (take (length ms - 1) (drop 1 ms))
-first_member [] m h is = absurd (omega (arith, h))
-first_member (x ∷ ms) m h is =
-    let k : length (x ∷ ms) - 1 ≡ length ms = omega arith in
-    let rest : take (length (x ∷ ms) - 1) ms ≡ ms = ap (λ n. take n ms) k ∙ take-length ms in
-    let own : part x ≡ record { key = m.key.items; place = m.place; text = text_by m.layout } = ap part (sym is) ∙ part-is m in
-    ap (λ (p : LaidMember). p ∷ member_parts ms) own ∙ ap (λ (ns : List Member). (record { key = m.key.items; place = m.place; text = text_by m.layout }) ∷ member_parts ns) (sym rest)
-
-pub others_counted : {X : Type 0} (xs : List X) → 1 ≤ length xs → length (take (length xs - 1) (drop 1 xs)) + 1 ≡ length xs
-others_counted [] h = absurd (omega (arith, h))
-others_counted (x ∷ xs) h =
-    let k : length (x ∷ xs) - 1 ≡ length xs = omega arith in
-    let rest : take (length (x ∷ xs) - 1) xs ≡ xs = ap (λ n. take n xs) k ∙ take-length xs in
-    omega (arith, ap length rest)

@@ -1,6 +1,6 @@
 -- The columns of a struct's fields, one field behind the other (ORC specification, "Types"): where those of each begin
 -- among the columns behind the struct's own, and how many they are.
-use Rattle.std.specs.Prelude.{◌≡◌, ℕ, zero, suc, ◌+◌, Bool, Some, List, [], ◌∷◌, ◌++◌, length, take, drop, map, slice_get}
+use Rattle.std.specs.Prelude.{◌≡◌, ℕ, zero, suc, ◌+◌, Bool, List, [], ◌∷◌, ◌++◌, length, take, drop}
 use Rattle.orc_values.specs.Cells.{Cell}
 use Rattle.orc_values.specs.Shapes.{Shape, scalar, Fields, no_field, field, width}
 use Rattle.orc_values.specs.declared.kind.Scalar.TheVariants as kind
@@ -11,7 +11,6 @@ use Rattle.orc_column_reader.specs.declared.column.ColumnReader.{ColumnReader}
 use Rattle.orc_directory.specs.declared.fault.StripeFault.{StripeFault}
 use Rattle.orc_json_printer.specs.Layouts.{LaidMember}
 use Rattle.orc_json_printer.specs.Outputs.{Puts}
-use Rattle.orc_json_printer.specs.declared.layout.FieldColumns.{FieldColumns}
 use borrow.Rule.Slice.PartMut.{put_mid}
 
 -- the type of the field at a place
@@ -29,23 +28,6 @@ columns_before (field name s fs) (suc place) = width s + columns_before fs place
 -- its readers
 abbrev pub readers_at : Fields → ℕ → List ColumnReader → List ColumnReader
 readers_at fs place readers = take (width (field_at fs place)) (drop (columns_before fs place) readers)
-
--- so many columns stand before these fields, and each has its first one and as many as are told
-abbrev pub AreColumnsOf : Fields → ℕ → List FieldColumns → Type 0
-AreColumnsOf no_field before [] = Unit {0}
-AreColumnsOf no_field before (x ∷ xs) = ⊥
-AreColumnsOf (field name s fs) before [] = ⊥
-AreColumnsOf (field name s fs) before (x ∷ xs) =
-    (x.first ≡ before) × (x.count ≡ width s) × AreColumnsOf fs (before + width s) xs
-
--- each member, from this index on, is the one that is told at its field's place
-abbrev pub member_of : FieldColumns → ℕ
-member_of x = x.member
-
--- each member's place is that of the field which names it
-abbrev pub AreMembersOf : List FieldColumns → ℕ → List LaidMember → Type 0
-AreMembersOf xs index [] = Unit {0}
-AreMembersOf xs index (p ∷ ps) = (slice_get (map member_of xs) p.place ≡ Some index) × AreMembersOf xs (suc index) ps
 
 -- a cell is taken from a field's columns
 pub record GaveCell (s : Shape) (before after : List ColumnReader) (cell : Cell) : Type 0 where

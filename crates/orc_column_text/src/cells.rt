@@ -1,27 +1,25 @@
 //! The text of a column's cells, one after the other, as the readers of its streams have them.
-ghost use Rattle.std.specs.Prelude.{◌≡◌, ◌≢◌, ◌+◌, ◌<◌, ◌≤◌, ◌^◌, ◌++◌, ◌∷◌, [], ℕ, suc, Bool, false, IfOk, IfErr, OnOk, length};
-ghost use Rattle.orc_values.specs.Cells.{Cell};
+ghost use Rattle.std.specs.Prelude.{◌≡◌, ◌≢◌, ◌+◌, ◌<◌, ◌≤◌, ◌^◌, ◌++◌, ◌∷◌, [], ℕ, suc, Bool, false, IfErr, OnOk, length};
 ghost use Rattle.orc_values.specs.Shapes.{width, widths};
 ghost use Rattle.orc_values.specs.Views.{shape, fields as fields_view};
-ghost use Rattle.orc_column_reader.specs.Fronts.{Leaves, Lacks};
+ghost use Rattle.orc_column_reader.specs.Fronts.{Lacks};
 ghost use Rattle.orc_column_reader.specs.Columns.{CellsLeft, OwnLeft, ScalarLeft, ListsOf, MapsOf, PairsLeft, FieldsLeft, column_of, marks_of};
 ghost use Rattle.orc_column_reader.specs.ReaderFaults.{CellsMeet, OwnMeet, ScalarMeets, ListsOfMeet, MapsOfMeet, PairsMeet, FieldsMeet};
 ghost use Rattle.orc_directory.specs.declared.fault.StripeFault.{StripeFault as Fault};
 ghost use Rattle.orc_directory.specs.declared.fault.StripeFault.TheVariants.{OutOfMemory};
+ghost use Rattle.orc_json_printer.specs.LaidOut.{IsLaidOut, AreFieldsLaidOut, AreColumnsOf, AreMembersOf};
 ghost use Rattle.orc_json_printer.specs.Layouts.{text_by, leaf_text, pair_text, pair_texts, part, member_parts, parts_text};
-ghost use Rattle.orc_column_text.specs.LaidOut.{IsLaidOut, AreFieldsLaidOut};
-ghost use Rattle.orc_column_text.specs.Regions.{field_at, columns_before, readers_at, AreColumnsOf, AreMembersOf, PrintedMember};
+ghost use Rattle.orc_column_text.specs.Regions.{field_at, columns_before, readers_at, PrintedMember};
 ghost use Rattle.orc_column_text.specs.Taken.{IsNoGrowth, Printed, PrintedValue, PrintedAll};
 ghost use Rattle.orc_column_text.specs.Texts.{comma_texts};
 
-use crate::laid_out::own_width;
 use orc_column_reader::{ColumnReader, ValueSource, next_present, next_size};
 use orc_directory::StripeFault;
 use orc_json_printer::TextOutput;
 use orc_json_printer::layout::{FieldColumns, Layout, Member, PairLayout};
 use orc_json_printer::leaf_text::push_own;
 use orc_json_printer::printing::push_comma_if;
-use orc_values::{Field, Scalar, Tree};
+use orc_values::{Field, Scalar, Tree, width_of};
 
 /// Puts the text of a column's next cell, by a layout of the column's type. What is put before a refusal is left open.
 /// No memory is wanted but what the output grows by.
@@ -233,6 +231,17 @@ fn push_pairs<T: TextOutput>(
         later = true;
     }
     Ok(())
+}
+
+/// Returns the number of columns of a type, without a call if the type contains no other.
+fn own_width(tree: &Tree) -> usize
+    requires { width (shape tree.now) < 2 ^ 64 }
+    ensures { result ≡ width (shape tree.now) }
+{
+    match tree {
+        Tree::Scalar(_, _) => 1,
+        _ => width_of(tree),
+    }
 }
 
 /// Puts the text of the next pair of a map: its key and its value, in brackets.

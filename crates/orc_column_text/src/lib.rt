@@ -3,9 +3,7 @@
 #![tactic(auto)]
 
 mod cells;
-mod laid_out;
 mod rows;
 
 pub use cells::push_cell;
-pub use laid_out::is_laid_out;
 pub use rows::push_next;

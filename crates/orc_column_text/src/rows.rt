@@ -6,8 +6,8 @@ ghost use Rattle.orc_values.specs.Views.{shape};
 ghost use Rattle.orc_column_reader.specs.ReaderFaults.{CellsMeet};
 ghost use Rattle.orc_directory.specs.declared.fault.StripeFault.{StripeFault as Fault};
 ghost use Rattle.orc_directory.specs.declared.fault.StripeFault.TheVariants.{OutOfMemory};
+ghost use Rattle.orc_json_printer.specs.LaidOut.{IsLaidOut};
 ghost use Rattle.orc_json_printer.specs.Layouts.{text_by};
-ghost use Rattle.orc_column_text.specs.LaidOut.{IsLaidOut};
 ghost use Rattle.orc_column_text.specs.Taken.{RowsLeft, GaveText, GivesText};
 
 use crate::cells::push_cell;

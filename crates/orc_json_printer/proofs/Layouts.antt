@@ -1,21 +1,17 @@
 -- Layouts, level by level.
-use Rattle.std.proofs.Common.{◌≡◌, ℕ, suc, ◌+◌, ◌<◌, List, [], ◌∷◌, ◌++◌, Bool, true, false, length, map, get_or, drop, Option, Some, Vec, Box, Global, refl, sym, ap, ◌∙◌, subst, arith, rules, add-one, append_assoc, drop-cons, ◌≤◌, String, string_bytes, string_cmp}
+use Rattle.std.proofs.Common.{◌≡◌, ℕ, suc, ◌+◌, ◌<◌, List, [], ◌∷◌, ◌++◌, length, map, get_or, drop, Vec, Box, Global, sym, ap, ◌∙◌, subst, arith, rules, add-one, ◌≤◌, String, string_bytes, string_cmp}
 use Rattle.std.proofs.lemmas.List.{get_or-map, drop_all, length-map}
 use Rattle.std.specs.BTreeMap.{insert_entry}
 use Rattle.serde_json.specs.Data.{no_members, put}
 use Rattle.orc_values.specs.Shapes.{Shape}
 use Rattle.orc_json_rows.specs.JsonPrinting.{members_json}
-use Rattle.serde_json.specs.Written.{comma_if}
-use Rattle.orc_values.specs.Cells.{Cell, null, leaf, list, struct, pairs, cells_of}
-use Rattle.orc_values.specs.Childless.{childless}
-use Rattle.orc_values.specs.Views.{shape, name_and_type, fields_of, view, views, paired}
+use Rattle.orc_values.specs.Cells.{Cell, cells_of}
+use Rattle.orc_values.specs.Views.{shape, name_and_type, fields_of}
 use Rattle.orc_values.specs.declared.kind.Scalar.{Scalar as Kind}
 use Rattle.orc_values.specs.declared.tree.Field.{Field}
 use Rattle.orc_values.specs.declared.tree.Tree.{Tree, Scalar as TreeScalar, List as TreeList, Map as TreeMap, Struct as TreeStruct}
-use Rattle.orc_values.specs.declared.value.Value.{Value, List as Rows, Struct as Parts, Map as MapOf}
-use Rattle.orc_values.specs.declared.value.MapPair.{MapPair}
-use Rattle.orc_values.proofs.Views.{shape-Scalar, shape-List, shape-Map, shape-Struct, view-List, view-Struct, view-Map, list_of-views, list_of-paired, name_and_type-is}
-use Rattle.orc_json_printer.specs.Layouts.{LaidMember, PairTexts, text_by, part, member_parts, pair_texts, leaf_text, list_json_text, map_text, struct_text, elements_text, pair_text, pairs_text, parts_text}
+use Rattle.orc_values.proofs.Views.{shape-Scalar, shape-List, shape-Map, shape-Struct, name_and_type-is}
+use Rattle.orc_json_printer.specs.Layouts.{LaidMember, text_by, part, member_parts, pair_texts, leaf_text, list_json_text, map_text, struct_text}
 use Rattle.orc_json_printer.specs.Texts.{Prints, PrintsStruct, no_name, shape_in, json_in, members_at, ArePlacesInOrder}
 use Rattle.orc_json_printer.specs.declared.layout.Layout.{Layout, Leaf, List as ListOf, Map as MapLayout, Struct}
 use Rattle.orc_json_printer.specs.declared.layout.Layout.TheFolds.{the_lemmas}
@@ -56,63 +52,11 @@ laid_map t k v o b is u w = rw (is, shape-Map k v o, text_by-Map b, pair_texts-i
 pub laid_struct : (t : Tree) (fs : Vec Field Global) (o : Vec ℕ Global) (ms : Vec Member Global) (xs : Vec FieldColumns Global) → t ≡ TreeStruct fs o → PrintsStruct (struct_text (member_parts ms.items)) (map name_and_type fs.items) → Prints (text_by (Struct ms xs)) (shape t)
 laid_struct t fs o ms xs is u = rw (is, shape-Struct fs o, text_by-Struct ms xs) (u o.items)
 
--- ---- the text of a list's row, of a map's, and of a struct's
-
-pub printed_list : (l : Layout) (b : Box Layout Global) (r : Option Value) (v : Value) (rows : Vec (Option Value) Global) → l ≡ ListOf b → r ≡ Some v → v ≡ Rows rows
-    → text_by l (view r) ≡ 91 ∷ elements_text (text_by b.value) false (views rows.items)
-printed_list l b r v rows il is at = rw (il, is, at, text_by-List b, view-List rows) (ap (λ (cs : List Cell). 91 ∷ elements_text (text_by b.value) false cs) (list_of-views rows.items))
-
-pub printed_map : (l : Layout) (b : Box PairLayout Global) (r : Option Value) (v : Value) (ps : Vec MapPair Global) → l ≡ MapLayout b → r ≡ Some v → v ≡ MapOf ps
-    → text_by l (view r) ≡ 91 ∷ pairs_text (pair_texts b.value) false (map paired ps.items)
-printed_map l b r v ps il is at = rw (il, is, at, text_by-Map b, view-Map ps) (ap (λ (qs : List (Cell × Cell)). 91 ∷ pairs_text (pair_texts b.value) false qs) (list_of-paired ps.items))
-
-pub printed_struct : (l : Layout) (ms : Vec Member Global) (xs : Vec FieldColumns Global) (r : Option Value) (v : Value) (rows : Vec (Option Value) Global) → l ≡ Struct ms xs → r ≡ Some v → v ≡ Parts rows
-    → text_by l (view r) ≡ 123 ∷ parts_text (member_parts ms.items) (views rows.items)
-printed_struct l ms xs r v rows il is at = rw (il, is, at, text_by-Struct ms xs, view-Struct rows) (ap (λ (cs : List Cell). 123 ∷ parts_text (member_parts ms.items) cs) (list_of-views rows.items))
-
-pub printed_member : (m : Member) (cs : List Cell) (ps : List LaidMember) → parts_text (part m ∷ ps) cs ≡ m.key.items ++ (text_by m.layout (get_or cs m.place null) ++ parts_text ps cs)
-printed_member m cs ps = rw (part-is m) refl
-
--- ---- the text of a value that contains no other, or of one of which nothing is printed
-
-pub leaf_text-childless : (c : Cell) → leaf_text (childless c) ≡ leaf_text c
-leaf_text-childless null = refl
-leaf_text-childless (leaf a) = refl
-leaf_text-childless (list cs) = refl
-leaf_text-childless (struct cs) = refl
-leaf_text-childless (pairs ps) = refl
-
-pub printed_leaf : (l : Layout) (own c : Cell) → l ≡ Leaf → own ≡ childless c → leaf_text own ≡ text_by l c
-printed_leaf l own c il is = rw (il, is, text_by-Leaf) (leaf_text-childless c)
-
 -- ---- one more
 
 pub member_parts_more : (ms : List Member) (m : Member) → member_parts (ms ++ m ∷ []) ≡ member_parts ms ++ (record { key = m.key.items; place = m.place; text = text_by m.layout }) ∷ []
 member_parts_more [] m = ap (λ (p : LaidMember). p ∷ []) (part-is m)
 member_parts_more (x ∷ ms) m = ap (λ (ps : List LaidMember). part x ∷ ps) (member_parts_more ms m)
-
-pub elements_next : (f : Cell → List ℕ) (later : Bool) (rs : List (Option Value)) (i : ℕ) (r : Option Value) (out mid new whole : List ℕ) → i < length rs → r ≡ get_or rs i r
-    → mid ≡ out ++ comma_if later → new ≡ mid ++ f (view r) → out ++ elements_text f later (views (drop i rs)) ≡ whole → new ++ elements_text f true (views (drop (i + 1) rs)) ≡ whole
-elements_next f later rs i r out mid new whole lt is m n done =
-    let rest = elements_text f true (views (drop (suc i) rs)) in
-    let here : out ++ elements_text f later (views (drop i rs)) ≡ out ++ (comma_if later ++ (f (view r) ++ rest)) = rw (drop-cons rs i r, ← is) refl in
-    rw (add-one, n, m) (append_assoc (out ++ comma_if later) (f (view r)) rest ∙ append_assoc out (comma_if later) (f (view r) ++ rest) ∙ sym here ∙ done)
-
-pub pairs_next : (t : PairTexts) (later : Bool) (ps : List MapPair) (i : ℕ) (p : MapPair) (out mid new whole : List ℕ) → i < length ps → p ≡ get_or ps i p
-    → mid ≡ out ++ comma_if later → new ≡ mid ++ pair_text t (paired p) → out ++ pairs_text t later (map paired (drop i ps)) ≡ whole → new ++ pairs_text t true (map paired (drop (i + 1) ps)) ≡ whole
-pairs_next t later ps i p out mid new whole lt is m n done =
-    let rest = pairs_text t true (map paired (drop (suc i) ps)) in
-    let own = pair_text t (paired p) in
-    let here : out ++ pairs_text t later (map paired (drop i ps)) ≡ out ++ (comma_if later ++ (own ++ rest)) = rw (drop-cons ps i p, ← is) refl in
-    rw (add-one, n, m) (append_assoc (out ++ comma_if later) own rest ∙ append_assoc out (comma_if later) (own ++ rest) ∙ sym here ∙ done)
-
-pub members_next_text : (ms : List Member) (i : ℕ) (m : Member) (cs : List Cell) (out new whole : List ℕ) → i < length ms → m ≡ get_or ms i m
-    → new ≡ out ++ (m.key.items ++ text_by m.layout (get_or cs m.place null)) → out ++ parts_text (member_parts (drop i ms)) cs ≡ whole → new ++ parts_text (member_parts (drop (i + 1) ms)) cs ≡ whole
-members_next_text ms i m cs out new whole lt is n done =
-    let rest = parts_text (member_parts (drop (suc i) ms)) cs in
-    let own = text_by m.layout (get_or cs m.place null) in
-    let here : out ++ parts_text (member_parts (drop i ms)) cs ≡ out ++ (m.key.items ++ (own ++ rest)) = rw (drop-cons ms i m, ← is) (ap (λ (t : List ℕ). out ++ t) (printed_member m cs (member_parts (drop (suc i) ms)))) in
-    rw (add-one, n) (append_assoc out (m.key.items ++ own) rest ∙ ap (λ (t : List ℕ). out ++ t) (append_assoc m.key.items own rest) ∙ sym here ∙ done)
 
 -- ---- the places of fields
 
@@ -143,5 +87,3 @@ places_last fs items i es is le h =
 
 pub shape_placed : (fs : List Field) (i : ℕ) (f : Field) → i < length fs → f ≡ get_or fs i f → shape f.tree ≡ shape_in (map name_and_type fs) i
 shape_placed fs i f lt is = sym (ap (λ (p : List ℕ × Shape). p.1) (get_or-map name_and_type fs i f no_name lt ∙ ap name_and_type (sym is) ∙ name_and_type-is f))
-
--- a field has no more columns than all fields have

@@ -1,5 +1,4 @@
 pub mod Escapes
-pub mod Growth
 pub mod Outputs
 pub mod Layouts
 pub mod Prints

@@ -1,7 +1,6 @@
 -- What is put into an output, a part after the other.
-use Rattle.std.proofs.Common.{◌≡◌, ℕ, List, [], ◌++◌, Global, refl, sym, ap, ◌∙◌, subst, append_assoc, append-nil}
-use Rattle.std.specs.Prelude.{Result, Ok, Err, OnOk, Vec}
-use Rattle.orc_json_printer.specs.Growth.{Grows}
+use Rattle.std.proofs.Common.{◌≡◌, ℕ, List, [], ◌++◌, refl, sym, ◌∙◌, subst, append_assoc, append-nil}
+use Rattle.std.specs.Prelude.{Result, Ok, Err, OnOk}
 use Rattle.orc_json_printer.specs.Outputs.{Puts, PutsSome}
 
 -- ---- these bytes
@@ -64,24 +63,3 @@ up_to_end holds a b all u = puts_is holds a b u.done all (sym (append-nil u.done
 
 pub up_to_some : {T : Type 0} (holds : T → List ℕ → Type 0) (a b : T) (rest all : List ℕ) → PutsUpTo holds a b rest all → PutsSome holds a b
 up_to_some holds a b rest all u = some_of_puts holds a b u.done u.put
-
--- ---- into a vector
-
-abbrev pub items_are : Vec ℕ Global → List ℕ → Type 0
-items_are out bytes = out.items ≡ bytes
-
-pub puts-vec : (a b : Vec ℕ Global) (x : List ℕ) → Puts items_are a b x → b.items ≡ a.items ++ x
-puts-vec a b x p = p a.items refl
-
-pub puts_last-vec : {X E : Type 0} (r : Result X E) (a b : Vec ℕ Global) (x : List ℕ) → OnOk r (Puts items_are a b x) → OnOk r (b.items ≡ a.items ++ x)
-puts_last-vec (Ok v) a b x p = puts-vec a b x p
-puts_last-vec (Err e) a b x p = tt
-
-pub some-vec : (a b : Vec ℕ Global) → PutsSome items_are a b → Grows a.items b.items
-some-vec a b p = let m = p a.items refl in record { more = m.0; is = m.1 }
-
-pub vec-puts : (a b : Vec ℕ Global) (x : List ℕ) → b.items ≡ a.items ++ x → Puts items_are a b x
-vec-puts a b x e = λ before h. e ∙ ap (λ (t : List ℕ). t ++ x) h
-
-pub vec-some : (a b : Vec ℕ Global) → Grows a.items b.items → PutsSome items_are a b
-vec-some a b g = some_of_puts items_are a b g.more (vec-puts a b g.more g.is)

@@ -1,4 +1,3 @@
-pub mod Growth
 pub mod Outputs
 pub mod Layouts
 pub mod Texts

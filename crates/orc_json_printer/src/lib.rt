@@ -1,4 +1,4 @@
-//! A row's JSON as text, printed straight to bytes by a layout of its type.
+//! What rows are printed by: layouts of their types, the text of a single value, and where text is put.
 #![tactic(auto)]
 
 pub mod layout;

@@ -1,10 +1,9 @@
 //! The rows that a cursor has still to give: the next one, its text, or all of them.
 ghost use Rattle.std.specs.Prelude.{◌≡◌, ◌≢◌, List, true, Ok, Err, IfOk, IfErr, OnOk, OnErr, MatchResult};
-ghost use Rattle.std.specs.Bool.{OnTrue};
 ghost use Rattle.orc_values.specs.Cells.{Cell};
 ghost use Rattle.orc_values.specs.Views.{views};
+ghost use Rattle.orc_json_printer.specs.LaidOut.{IsLaidOut};
 ghost use Rattle.orc_json_printer.specs.Layouts.{text_by};
-ghost use Rattle.orc_column_text.specs.LaidOut.{IsLaidOut};
 ghost use Rattle.orc_column_text.specs.Taken.{GaveText, GivesText};
 ghost use Rattle.orc_directory.specs.declared.fault.StripeFault.{StripeFault as Fault};
 ghost use Rattle.orc_directory.specs.declared.fault.StripeFault.TheVariants.{OutOfMemory, Failed};
@@ -12,7 +11,7 @@ ghost use Rattle.orc_stripe_reader.specs.TextCursors.{CountsDownWhere};
 ghost use Rattle.orc_stripe_reader.specs.Cursors.{row_type, HasRefused, IsGoing, StandsFor, GivesRow, Gave, CountsDown, MeetsFault};
 
 use crate::cursor::RowCursor;
-use orc_column_text::{is_laid_out, push_next};
+use orc_column_text::push_next;
 use orc_directory::StripeFault;
 use orc_json_printer::TextOutput;
 use orc_json_printer::layout::Layout;
@@ -86,16 +85,9 @@ impl<'a> RowCursor<'a> {
         }
     }
 
-    /// Whether a layout is one of the rows' type, as `push_next` wants it.
-    pub fn has_layout(&self, layout: &Layout) -> bool
-        // A layout of which this is said is one of the rows' type.
-        ensures { OnTrue result (IsLaidOut (row_type self.now) layout.now) }
-    {
-        is_laid_out(self.tree, layout)
-    }
-
     /// Puts the text of the next row, by a layout of the rows' type, without the row being made, and says whether there was
-    /// one. At the end, once nothing is found left over in any stream, nothing is put.
+    /// one. At the end, once nothing is found left over in any stream, nothing is put. If no struct of the type names a field
+    /// twice, `layout_of` of `orc_json_printer` returns such a layout.
     ///
     /// Refusals: those of `next`, but that memory is wanted for the output alone. What is put before one of them is left
     /// open.

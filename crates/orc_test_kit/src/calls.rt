@@ -1,5 +1,10 @@
-//! The calls that stripes are read by. None has a contract here: what the called ones promise is long, and would be a
-//! part of the proof of each test that makes them, of which the proof says nothing but that it is safe.
+//! The calls that stripes are read by. Their contracts speak of a cursor's row type alone, so that a layout is known to be one
+//! of it. What the called ones promise is long, and would be a part of the proof of each test that makes them, of which the
+//! proof says nothing but that it is safe.
+ghost use Rattle.std.specs.Prelude.{◌≡◌, IfOk};
+ghost use Rattle.orc_json_printer.specs.LaidOut.{IsLaidOut};
+ghost use Rattle.orc_stripe_reader.specs.Cursors.{row_type};
+
 use orc_directory::StripeFault;
 use orc_json_printer::layout::Layout;
 use orc_stripe_reader::{RowCursor, StripeView};
@@ -22,7 +27,9 @@ fn view_of<'a>(
     schema: &'a Schema,
     info: StripeInfo,
     bytes: &'a [u8],
-) -> Result<StripeView<'a>, StripeFault> {
+) -> Result<StripeView<'a>, StripeFault>
+    ensures { IfOk result (λ view. view.schema ≡ schema.now) }
+{
     StripeView::open(alloc, schema, info, 0, bytes)
 }
 
@@ -43,7 +50,9 @@ pub fn cursor_of<'a>(
     schema: &'a Schema,
     info: StripeInfo,
     bytes: &'a [u8],
-) -> Result<RowCursor<'a>, StripeFault> {
+) -> Result<RowCursor<'a>, StripeFault>
+    ensures { IfOk result (λ cursor. row_type cursor ≡ schema.now) }
+{
     let view = view_of(alloc, schema, info, bytes)?;
     view.cursor(alloc)
 }
@@ -53,15 +62,15 @@ pub fn next_row<'a>(cursor: &mut RowCursor<'a>) -> Result<Option<Row<'a>>, Strip
     cursor.next()
 }
 
-/// Puts the text of a cursor's next row, of whose type the layout has to be; at the end `false`.
+/// Puts the text of a cursor's next row, by a layout of its rows' type; at the end `false`.
 pub fn next_text(
     cursor: &mut RowCursor<'_>,
     layout: &Layout,
     out: &mut Vec<u8>,
-) -> Result<bool, StripeFault> {
-    if !cursor.has_layout(layout) {
-        return Err(StripeFault::Failed);
-    }
+) -> Result<bool, StripeFault>
+    requires { IsLaidOut (row_type cursor.old) layout.now }
+    ensures { row_type cursor.new ≡ row_type cursor.old }
+{
     cursor.push_next(layout, out)
 }
 

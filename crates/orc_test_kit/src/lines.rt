@@ -1,4 +1,8 @@
 //! The lines that a stripe's rows print as, all at once, one by one, or with no row made.
+ghost use Rattle.std.specs.Prelude.{◌≡◌, OnOk};
+ghost use Rattle.orc_json_printer.specs.LaidOut.{IsLaidOut};
+ghost use Rattle.orc_stripe_reader.specs.Cursors.{row_type};
+
 use crate::calls::{cursor_of, next_row, next_text, rows_of};
 use orc_directory::StripeFault;
 use orc_json::RowPrinter;
@@ -143,7 +147,9 @@ fn put_each_text(
     cursor: &mut RowCursor<'_>,
     count: u64,
     lines: &mut Vec<String>,
-) -> Result<(), StripeFault> {
+) -> Result<(), StripeFault>
+    requires { IsLaidOut (row_type cursor.old) layout.now }
+{
     for _ in 0..count {
         put_next_text(alloc, layout, cursor, lines)?;
     }
@@ -157,7 +163,10 @@ fn put_next_text(
     layout: &Layout,
     cursor: &mut RowCursor<'_>,
     lines: &mut Vec<String>,
-) -> Result<(), StripeFault> {
+) -> Result<(), StripeFault>
+    requires { IsLaidOut (row_type cursor.old) layout.now }
+    ensures { OnOk result (row_type cursor.new ≡ row_type cursor.old) }
+{
     let mut text = Vec::new(alloc);
     match next_text(cursor, layout, &mut text) {
         Ok(true) => match std::str::from_utf8(&text) {
@@ -177,16 +186,17 @@ fn see_text_end(
     alloc: Global,
     layout: &Layout,
     cursor: &mut RowCursor<'_>,
-) -> Result<(), StripeFault> {
+) -> Result<(), StripeFault>
+    requires { IsLaidOut (row_type cursor.old) layout.now }
+    ensures { OnOk result (row_type cursor.new ≡ row_type cursor.old) }
+{
     let mut text = Vec::new(alloc);
-    match next_text(cursor, layout, &mut text) {
-        Ok(false) => is_empty(&text),
-        Ok(true) => Err(WRONG),
-        Err(fault) => Err(refused(cursor, fault)),
+    let is_row = match next_text(cursor, layout, &mut text) {
+        Ok(is_row) => is_row,
+        Err(fault) => return Err(refused(cursor, fault)),
+    };
+    if is_row || !text.is_empty() {
+        return Err(WRONG);
     }
-}
-
-/// Nothing was appended.
-fn is_empty(text: &Vec<u8>) -> Result<(), StripeFault> {
-    if text.is_empty() { Ok(()) } else { Err(WRONG) }
+    Ok(())
 }

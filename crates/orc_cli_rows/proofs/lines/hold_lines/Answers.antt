@@ -1,6 +1,6 @@
 use Rattle.std.proofs.Common.{◌∙◌, sym, subst}
 use Rattle.orc_values.specs.Shapes.{Shape}
-use Rattle.orc_column_text.specs.LaidOut.{IsLaidOut}
+use Rattle.orc_json_printer.specs.LaidOut.{IsLaidOut}
 use Rattle.orc_json_printer.specs.Layouts.{text_by}
 use Rattle.orc_cli_rows.specs.Pieces.{IsHeld}
 use Rattle.orc_cli_rows.proofs.CursorLemmas.{filling_next, all_filled}

@@ -1,5 +1,5 @@
 use Rattle.std.specs.Prelude.{◌≡◌}
-use Rattle.orc_column_text.specs.LaidOut.{IsLaidOut}
+use Rattle.orc_json_printer.specs.LaidOut.{IsLaidOut}
 use Rattle.orc_json_printer.specs.Layouts.{text_by}
 use Rattle.orc_stripe_reader.specs.Cursors.{row_type}
 use Rattle.orc_cli_rows.specs.Pieces.{IsHeld}

@@ -2,7 +2,7 @@ use Rattle.std.proofs.Common.{◌≢◌, sym, subst}
 use Rattle.std.proofs.lemmas.Result.{err_from_is_err_and}
 use Rattle.orc_values.specs.Shapes.{Shape}
 use Rattle.orc_directory.specs.declared.fault.StripeFault.TheVariants.{Failed}
-use Rattle.orc_column_text.specs.LaidOut.{IsLaidOut}
+use Rattle.orc_json_printer.specs.LaidOut.{IsLaidOut}
 use Rattle.orc_json_printer.specs.Layouts.{text_by}
 use Rattle.orc_cli_rows.proofs.CursorLemmas.{filling_next, given_dropped, never_refused}
 use Rattle.orc_cli_rows.proofs.lines.put_lines.Goals as goal

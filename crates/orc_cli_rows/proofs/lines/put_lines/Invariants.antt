@@ -1,5 +1,5 @@
 use Rattle.orc_directory.specs.declared.fault.StripeFault.{StripeFault}
-use Rattle.orc_column_text.specs.LaidOut.{IsLaidOut}
+use Rattle.orc_json_printer.specs.LaidOut.{IsLaidOut}
 use Rattle.orc_json_printer.specs.Layouts.{text_by}
 use Rattle.orc_stripe_reader.specs.Cursors.{row_type, IsGoing, MeetsFault}
 use Rattle.orc_cli_rows.proofs.CursorLemmas.{Filling}

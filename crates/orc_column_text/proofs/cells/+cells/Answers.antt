@@ -20,11 +20,11 @@ use Rattle.std.proofs.lemmas.List.{length-map, drop_all}
 use Rattle.std.proofs.lemmas.Result.{err_from_is_err_and}
 use borrow.Rule.Slice.PartMut.{put_mid}
 use Rattle.orc_json_printer.specs.declared.layout.FieldColumns.{FieldColumns}
-use Rattle.orc_column_text.specs.Regions.{field_at, columns_before, AreMembersOf}
+use Rattle.orc_column_text.specs.Regions.{field_at, columns_before}
 use Rattle.orc_column_text.specs.Texts.{comma_texts}
 use Rattle.orc_column_text.proofs.Texts.{null_text_by}
 use Rattle.orc_json_printer.proofs.Outputs.{puts_is}
-use Rattle.orc_column_text.specs.LaidOut.{IsLaidOut, AreFieldsLaidOut}
+use Rattle.orc_json_printer.specs.LaidOut.{IsLaidOut, AreFieldsLaidOut, AreMembersOf}
 use Rattle.orc_json_printer.specs.declared.layout.Member.{Member}
 use Rattle.orc_column_text.proofs.Laying.{leaf_layout, struct_layout, member_laid_out}
 use Rattle.orc_column_text.proofs.Taken.{scalar_taken, scalar_lacking, bracketed, passed_next, passed_all, value_taken, list_taken_text, map_taken_text, pair_taken, struct_taken_text}

@@ -4,8 +4,8 @@ use Rattle.orc_values.specs.Views.{shape, fields as fields_view}
 use Rattle.orc_column_reader.specs.Columns.{CellsLeft, PairsLeft}
 use Rattle.orc_directory.specs.declared.fault.StripeFault.{StripeFault}
 use Rattle.orc_column_reader.specs.ReaderFaults.{CellsMeet, PairsMeet}
+use Rattle.orc_json_printer.specs.LaidOut.{AreMembersOf}
 use Rattle.orc_json_printer.specs.Layouts.{text_by, member_parts, pair_text, pair_texts}
-use Rattle.orc_column_text.specs.Regions.{AreMembersOf}
 use Rattle.orc_column_text.proofs.AnyOrder.{Reading}
 use Rattle.orc_column_text.proofs.Taken.{PrintedSoFar}
 use Rattle.orc_column_text.proofs.cells.+cells.Given as goal
