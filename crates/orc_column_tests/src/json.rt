@@ -42,11 +42,7 @@ fn borrowed_row_holds(alloc: Global) -> Result<bool, JsonFault> {
 #[test]
 fn borrowed_rows(rt: HostRuntime) {
     let alloc = rt.alloc();
-    demand_of(
-        &rt,
-        borrowed_row_holds(alloc),
-        &"a borrowed row",
-    );
+    demand_of(&rt, borrowed_row_holds(alloc), &"a borrowed row");
 }
 
 /// Whether such a schema has no layout, and its rows have no line, not even null.
@@ -199,11 +195,7 @@ fn rows_over_others(rt: HostRuntime) {
     let alloc = rt.alloc();
     let mut reader = RowReader::new(alloc);
     for old in ROWS.lines() {
-        demand_of(
-            &rt,
-            are_read_over(alloc, &mut reader, old),
-            &old,
-        );
+        demand_of(&rt, are_read_over(alloc, &mut reader, old), &old);
     }
 }
 
