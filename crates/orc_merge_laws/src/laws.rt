@@ -119,9 +119,8 @@ pub fn orders()
     ensures whole { (inputs : List (List ℕ)) (tail : Tail) (out : List ℕ) (parts : List (List Cell))
         → IsMerge inputs tail out → AreHonestFiles inputs parts
         → HasWholeStats tail (rows.rows_together parts) }
-    // The statistic of a column in several stripes together has a sum if and only if the column has a value, and the
-    // sum of each stripe with values and the sum of all rows fit 64 bits. A statistic of a kind without sums counts
-    // as having one.
+    // In a column of a kind with sums, the statistic of several stripes together has one if and only if the column
+    // has a value, and the sum of each stripe with values and the sum of all rows fit 64 bits.
     ensures sum { (k : StatKind) (stripes : List (List Cell))
         → has_sum (whole k stripes).body
         ≡ (list_all (λ rows. keeps_sum (stat k rows)) stripes

@@ -102,9 +102,9 @@ pub fn merge_theorem()
         → (each_file_has_rows_and_their_statistics : AreHonestFiles files parts)
         → Honest tail (rows_together parts) × HasWholeStats tail (rows_together parts) }
     // If a merged file has fewer than 2^64 bytes, and the stripe statistics of each input are those of its rows
-    // (element counts may be missing), then the merged tail has a file statistic of each column. This has a sum if
-    // and only if the column has a value, and the sum of each stripe with values and the sum of all rows fit 64 bits.
-    // A statistic of a kind without sums counts as having one.
+    // (element counts may be missing), then the merged tail has a file statistic of each column. In a column of a kind
+    // with sums, this has one if and only if the column has a value, and the sum of each stripe with values and the sum
+    // of all rows fit 64 bits.
     ensures sums { (files : List (List ℕ)) (tail : Tail) (out : List ℕ) (parts : List (List Cell)) (column : ℕ)
         → (it_is_their_merge : IsMerge files tail out)
         → (it_has_fewer_than_2_64_bytes : length out < 2 ^ 64)

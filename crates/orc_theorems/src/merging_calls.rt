@@ -214,9 +214,9 @@ pub fn join_in_groupings(
         → AreHonestFiles (first.now ∷ second.now ∷ third.now ∷ []) parts
         → Honest done.0.tail (rows.rows_together parts) × HasWholeStats done.0.tail (rows.rows_together parts)) }
     // If joining succeeds, and the stripe statistics of each of the three files are those of its rows (element counts
-    // may be missing), then the returned tail has a file statistic of each column. This has a sum if and only if the
-    // column has a value, and the sum of each stripe with values and the sum of all rows fit 64 bits. A statistic of
-    // a kind without sums counts as having one.
+    // may be missing), then the returned tail has a file statistic of each column. In a column of a kind with sums,
+    // this has one if and only if the column has a value, and the sum of each stripe with values and the sum of all
+    // rows fit 64 bits.
     ensures sums { IfOk result (λ done. (parts : List (List Cell)) (column : ℕ)
         → AreHonestFiles (first.now ∷ second.now ∷ third.now ∷ []) parts
         → column < width done.0.tail.schema
