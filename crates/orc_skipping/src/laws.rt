@@ -21,28 +21,28 @@ ghost use Rattle.orc_skipping.specs.Right.{Admits, AreRight, LackNothing, LeaveR
 /// gives is right and lacks nothing. A counterexample shows what the bold rule does otherwise.
 pub fn skipping_laws()
     // If each statistic admits its column's cells in the rows, and no cells that the statistics admit
-    // pass the test, no row passes it. The test may be any function of a row's cells.
+    // pass the test, then no row passes it. The test may be any function of a row's cells.
     ensures any { (s : Shape) (rows : List Cell) (told : ℕ → Option Stat) (test : (ℕ → Option Cell) → Bool)
         → (the_statistics_are_right : AreRight s rows told)
         → (no_admitted_cells_pass : (at : ℕ → Option Cell) → LeaveRoom told at → test at ≡ true → ⊥)
         → AllByRecursion (λ row. test (cell_of_row s row) ≡ true → ⊥) rows }
 
-    // If each statistic admits its column's cells in the rows, and the cautious rule skips them, none
-    // of the rows matches.
+    // If each statistic admits its column's cells in the rows, and the cautious rule skips them, then
+    // none of the rows matches.
     ensures cautious { (s : Shape) (rows : List Cell) (told : ℕ → Option Stat) (p : Predicate)
         → (the_statistics_are_right : AreRight s rows told)
         → (the_rows_are_skipped : cautious told p ≡ false)
         → NoneMatches s p rows }
 
     // If each statistic admits its column's cells in the rows and lacks nothing, and the bold rule
-    // skips the rows, none of them matches.
+    // skips the rows, then none of them matches.
     ensures bold { (s : Shape) (rows : List Cell) (told : ℕ → Option Stat) (p : Predicate)
         → (the_statistics_are_right : AreRight s rows told)
         → (they_lack_nothing : LackNothing told)
         → (the_rows_are_skipped : bold told p ≡ false)
         → NoneMatches s p rows }
 
-    // If the cautious rule skips rows, the bold rule skips them.
+    // If the cautious rule skips rows, then the bold rule skips them.
     ensures bolder { (told : ℕ → Option Stat) (p : Predicate) → cautious told p ≡ false → bold told p ≡ false }
 
     // The bold rule goes by the statistic of the column that a predicate is said of, whatever that column's
@@ -50,13 +50,13 @@ pub fn skipping_laws()
     ensures one_column { (c : ℕ) (told : Option Stat) (p : Predicate)
         → bold (at_column c told) (said_of c p) ≡ bold (λ _. told) p }
 
-    // If a statistic agrees with that of cells, it admits each of them.
+    // If a statistic agrees with that of cells, then it admits each of them.
     ensures right { (k : StatKind) (cells : List Cell) (s : Stat)
         → Agrees s (stat k cells)
         → AllByRecursion (Admits s) cells }
 
-    // If a statistic agrees with that of cells, and they are of its kind, the bold rule takes it as it
-    // is.
+    // If a statistic agrees with that of cells, and they are of its kind, then the bold rule takes it
+    // as it is.
     ensures full { (k : StatKind) (cells : List Cell) (s : Stat)
         → AllByRecursion (λ c. is_of k c ≡ true) cells
         → Agrees s (stat k cells)
