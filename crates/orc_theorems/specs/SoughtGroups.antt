@@ -67,19 +67,22 @@ pub record IsGroupSought (view : Opened) (rows : List Cell) (c g : ℕ) (found :
   pub index : HasIndex view.footer view.bytes c message
   pub group : g < length message.entries
   pub sought : IsColumnSought (shape_at view.schema c) (columns_of view.footer view.bytes c)
-      (before_group (cells view.schema c rows) (bounds_of view.schema c rows (starts_of_groups view.stride (length rows))) g)
-      found
+      (before_group (cells view.schema c rows)
+      (bounds_of view.schema c rows (starts_of_groups view.stride (length rows))) g) found
 
--- the same of stripe n of a file with these rows
+-- In stripe n of a file with these rows, column c has a row index with an entry of group g, and in each of the column's
+-- streams of runs the group's first value was found.
 pub record IsSoughtInFile (bytes : List ℕ) (tail : Tail) (rows : List Cell) (n c g : ℕ)
     (found : ColumnSought) : Type 0 where
   pub there : n < length tail.stripes
   pub footer : StripeFooter
-  pub has_footer : HasFooter tail.schema (stripe_at tail.stripes n) (stripe_bytes (stripe_at tail.stripes n) bytes) footer
+  pub has_footer : HasFooter tail.schema (stripe_at tail.stripes n)
+      (stripe_bytes (stripe_at tail.stripes n) bytes) footer
   pub group : IsGroupSought (opened_stripe tail n (stripe_bytes (stripe_at tail.stripes n) bytes) footer)
       (rows_at (cut_rows tail.stripes rows) n) c g found
 
--- the same of a file that a writer writes of these rows
+-- A writer writes a file of these rows, and in it the first value of group g was found in each stream of runs of column
+-- c in stripe n.
 abbrev pub IsSoughtInWritten : Options → Shape → List Cell → ℕ → ℕ → ℕ → ColumnSought → Type 0
 IsSoughtInWritten options s rows n c g found =
     (tail : Tail) × (first : Option (List ℕ)) × (told : Option (List ℕ))

@@ -55,8 +55,9 @@ fn read_from<'a>(
 }
 
 /// Opens a stripe and reads its rows from a group on: the first one with `next`, and those after it with `rest`. If the
-/// stripe is one of a file without findings, then these are the file's rows, by clause `starts` of
-/// `reading_from_the_middle`. Bytes before the group's offsets don't matter, by its clauses `alone` and `footer`.
+/// file of the stripe has no findings, then these are the stripe's rows from the group's first row on, by clause
+/// `starts` of `reading_from_the_middle`. Bytes before the group's offsets don't matter, by its clauses `alone` and
+/// `footer`.
 ///
 /// # Errors
 ///

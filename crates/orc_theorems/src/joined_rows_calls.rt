@@ -93,9 +93,9 @@ pub fn append_and_read(
     options: Options,
     rows: &[Row<'_>],
 ) -> Result<JoinedRows, CallFault>
-    // If the call succeeds, then `file` is a file, and the first rows that are returned are its rows.
+    // If the call succeeds, then `file` is a file, and the rows that are returned in `first` are its rows.
     ensures before { IfOk result (λ done. (tail : Tail) × FileIs file.now tail (views done.first.items)) }
-    // If the call succeeds, then the second rows that are returned, which were read of the file that was written, are
+    // If the call succeeds, then the rows that are returned in `second`, which were read from the written file, are
     // `rows`.
     ensures written { IfOk result (λ done. views done.second.items ≡ views rows.now) }
     // If the call succeeds, then the joined file has the returned tail, and its rows, which are returned, are those of

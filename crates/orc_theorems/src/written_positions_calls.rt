@@ -242,9 +242,9 @@ pub fn join_and_seek(
         → IfOk result (λ found. (out : List ℕ) × (tail : Tail)
         × MergedTo (first.now ∷ second.now ∷ []) out × FileIs out tail (rows_together (rows ∷ others ∷ []))
         × IsSoughtInFile out tail (rows_together (rows ∷ others ∷ [])) stripe column group found) }
-    // An error in `Merge` is `SourceFailed`, `WriteFailed`, `OutOfMemory`, or the first fault of `first` and `second` as
-    // inputs. After an error in `File` the two files have a merged file, and the error is `BadStripe`, only if this has
-    // no such stripe, `OutOfMemory`, `SourceFailed`, or `Stripe` with this stripe's number.
+    // An error in `Merge` is `SourceFailed`, `WriteFailed`, `OutOfMemory`, or the first fault of `first` and `second`
+    // as inputs. After an error in `File` the two files have a merged file, and the error is `BadStripe`, only if this
+    // has no such stripe, `OutOfMemory`, `SourceFailed`, or `Stripe` with this stripe's number.
     ensures refused { IfErr result (IsJoinSeekFault first.now second.now stripe) }
     // If `first` and `second` were written by `finish`, and have a merged file that has the stripe, the group and the
     // column, then an error is `OutOfMemory`, `SourceFailed` or, of the merge, `WriteFailed`.
@@ -292,9 +292,9 @@ pub fn join_in_steps_and_seek(
     group: usize,
 ) -> Result<ColumnSought, CallFault>
     // If the call succeeds, and the three files are files with rows whose row indexes are as a writer writes them, then
-    // the two steps wrote a file with all these rows, in order, and it has the stripe, the column and the group. In each
-    // of the column's streams of runs at most one run was read, and the values that are left of it, followed by those of
-    // the runs after it, are the stream's values from the group's first value on.
+    // the two steps wrote a file with all these rows, in order, and it has the stripe, the column and the group. In
+    // each of the column's streams of runs at most one run was read, and the values that are left of it, followed by
+    // those of the runs after it, are the stream's values from the group's first value on.
     ensures sought { (parts : List (List Cell))
         → AreIndexedAsWritten (first.now ∷ second.now ∷ third.now ∷ []) parts
         → IfOk result (λ found. (out : List ℕ) × (tail : Tail)
@@ -302,8 +302,8 @@ pub fn join_in_steps_and_seek(
         × IsSoughtInFile out tail (rows_together parts) stripe column group found) }
     // If the three files are files with rows whose row indexes are as a writer writes them, and without findings, and
     // the file that the two steps write has the stripe, the group and the column, then an error in `File` is
-    // `OutOfMemory` or `SourceFailed`. An error in `Merge` is `SourceFailed`, `WriteFailed`, `OutOfMemory`, or the first
-    // fault of the inputs of one of the two merges.
+    // `OutOfMemory` or `SourceFailed`. An error in `Merge` is `SourceFailed`, `WriteFailed`, `OutOfMemory`, or the
+    // first fault of the inputs of one of the two merges.
     ensures only { (parts : List (List Cell))
         → AreIndexedAsWritten (first.now ∷ second.now ∷ third.now ∷ []) parts
         → AreWithoutFinding (first.now ∷ second.now ∷ third.now ∷ []) parts
