@@ -1,5 +1,5 @@
 -- Why calls fail that write, read and join files, and what is read of files that were joined.
-use Rattle.std.proofs.Common.{◌≡◌, ◌∙◌, ◌⊎◌, ℕ, ◌<◌, Bool, true, false, List, [], ◌∷◌, ◌++◌, length, Option, Some, Result, Ok, Err, inl, inr, refl, sym, ap, subst, append_assoc, append-nil}
+use Rattle.std.proofs.Common.{◌≡◌, ◌∙◌, ◌⊎◌, ℕ, ◌<◌, ◌+◌, arith, Bool, true, false, List, [], ◌∷◌, ◌++◌, length, Option, Some, Result, Ok, Err, inl, inr, refl, sym, ap, subst, append_assoc, append-nil}
 use Rattle.std.specs.Prelude.{IfOk, IfErr}
 use Rattle.std.proofs.lemmas.Bool.{false≢true}
 use Rattle.orc_values.specs.Cells.{Cell}
@@ -8,6 +8,7 @@ use Rattle.orc_values.specs.Shapes.{Shape}
 use Rattle.orc_wire.specs.declared.stripe_info.StripeInfo.{StripeInfo}
 use Rattle.orc_row_batch.specs.declared.options.Options.{Options}
 use Rattle.orc_io.specs.Devices.{appended}
+use Rattle.orc_io.specs.Leaves.{HandsBackSink}
 use Rattle.orc_tail.specs.Tails.{IsTail, TailOpenFault, ReadFault}
 use Rattle.orc_tail.specs.declared.tail.Tail.{Tail}
 use Rattle.orc_tail.specs.declared.fault.FileFault.{FileFault}
@@ -229,3 +230,12 @@ written_without law without bytes rows was =
     let is = (law was.options was.schema was.tail was.first was.told rows was.finish_wrote).1 in
     let none = without was.options was.schema was.tail was.finish_wrote.bytes rows was.finish_wrote.file is in
     (was.tail, subst (λ (b : List ℕ). FileIs b was.tail rows) (sym was.bytes_are) is, subst (λ (b : List ℕ). Findings b was.tail rows []) (sym was.bytes_are) none)
+
+-- A call that hands a sink back with the fault that says that the sink failed has raised its count of failures.
+pub failures_rose : {W T E : Type 0} (failures_of : W → ℕ) (sink_failed : E) (back_of : T → W) (sink : W)
+    (result : Result T (E × W)) → HandsBackSink failures_of sink_failed back_of sink result
+    → IfErr result (λ e. e.0 ≡ sink_failed → failures_of sink < failures_of e.1)
+failures_rose f s back_of sink (Ok done) p = tt
+failures_rose f s back_of sink (Err e) p = λ is.
+    let rose : f e.1 ≡ f sink + 1 = p.failed (ap Err is) in
+    omega (arith, rose)

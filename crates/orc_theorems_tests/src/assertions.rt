@@ -17,3 +17,8 @@ pub(crate) fn check_same<T: PartialEq + fmt::Debug>(
 pub(crate) fn check_bytes(rt: &impl Abort, what: &str, found: &[u8], wanted: &[u8]) {
     assert_eq!(rt; found, wanted, "{what}");
 }
+
+/// The numbers are those that are wanted.
+pub(crate) fn check_numbers(rt: &impl Abort, what: &str, found: &[i64], wanted: &[i64]) {
+    assert_eq!(rt; found, wanted, "{what}");
+}

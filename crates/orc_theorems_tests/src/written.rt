@@ -1,6 +1,9 @@
 //! Files that are written, read back, read from their middle, and sought there.
-use crate::assertions::{check_bytes, check_same};
-use crate::calls::{printed, printed_of, sought, sought_in_join, written};
+use crate::assertions::{check_bytes, check_numbers, check_same};
+use crate::calls::{
+    appended, is_written, numbers_from, opened, printed, printed_of, sought, sought_in_join,
+    sought_in_steps, written,
+};
 use orc_cli_output::CliFault;
 use orc_file::FileFault;
 use orc_rle::Rle;
@@ -120,6 +123,73 @@ fn sought_in_the_middle(rt: HostRuntime) -> Result<(), FileFault> {
 fn sought_in_a_join(rt: HostRuntime) -> Result<(), CallFault> {
     let (bytes, _) = file_of(rt.alloc(), &[7, 7, 7], 2)?;
     let left = sought_in_join(rt.alloc(), &bytes, &bytes, 1)?;
+    check_same(&rt, "left", &left, &1);
+    Ok(())
+}
+
+/// The numbers in the rows of what three sevens and a file of these numbers are joined into.
+fn appended_to_sevens(alloc: Global, numbers: &[i64]) -> Result<Vec<i64>, CallFault> {
+    let Parts {
+        schema,
+        options,
+        rows,
+    } = parts_of(alloc, numbers, 0)?;
+    appended(alloc, &SEVENS, schema, options, &rows)
+}
+
+#[test]
+fn rows_behind_those_of_a_file(rt: HostRuntime) -> Result<(), CallFault> {
+    let numbers = appended_to_sevens(rt.alloc(), &[1, 9])?;
+    check_numbers(&rt, "rows", &numbers, &[7, 7, 7, 1, 9]);
+    Ok(())
+}
+
+#[test]
+fn by_a_cursor_in_the_middle(rt: HostRuntime) -> Result<(), FileFault> {
+    let (bytes, _) = file_of(rt.alloc(), &[7, 7, 7, 1, 9], 3)?;
+    let damaged = with_eights(rt.alloc(), &bytes)?;
+    let numbers = numbers_from(rt.alloc(), &damaged, 0, 0)?;
+    check_numbers(&rt, "all rows", &numbers, &[8, 8, 8, 1, 9]);
+    let numbers = numbers_from(rt.alloc(), &damaged, 0, 1)?;
+    check_numbers(&rt, "rows behind", &numbers, &[1, 9]);
+    Ok(())
+}
+
+/// Whether the file of three sevens is what is written of these numbers.
+fn is_of_sevens(alloc: Global, numbers: &[i64]) -> Result<bool, FileFault> {
+    let Parts {
+        schema,
+        options,
+        rows,
+    } = parts_of(alloc, numbers, 0)?;
+    is_written(alloc, &SEVENS, schema, options, &rows)
+}
+
+#[test]
+fn bytes_of_written_files(rt: HostRuntime) -> Result<(), FileFault> {
+    let same = is_of_sevens(rt.alloc(), &[7, 7, 7])?;
+    check_same(&rt, "three sevens", &same, &true);
+    let same = is_of_sevens(rt.alloc(), &[7, 7])?;
+    check_same(&rt, "two sevens", &same, &false);
+    Ok(())
+}
+
+#[test]
+fn opened_with_its_tail(rt: HostRuntime) -> Result<(), FileFault> {
+    let Parts {
+        schema,
+        options,
+        rows,
+    } = parts_of(rt.alloc(), &[7, 7, 7, 1], 2)?;
+    let count = opened(rt.alloc(), schema, options, &rows)?;
+    check_same(&rt, "rows", &count, &4);
+    Ok(())
+}
+
+#[test]
+fn sought_in_steps_of_joining(rt: HostRuntime) -> Result<(), CallFault> {
+    let (bytes, _) = file_of(rt.alloc(), &[7, 7, 7], 2)?;
+    let left = sought_in_steps(rt.alloc(), &bytes, &bytes, &bytes, 1)?;
     check_same(&rt, "left", &left, &1);
     Ok(())
 }

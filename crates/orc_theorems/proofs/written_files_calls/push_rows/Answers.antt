@@ -27,7 +27,7 @@ loop-row-preserved g c =
       schema = c.push.ensures.takes.same.0 ∙ inv.schema;
       options = c.push.ensures.takes.same.1 ∙ inv.options;
       going = λ was. c.in_ok-push.ensures.takes.ok;
-      no_failure = c.in_ok-push.ensures.takes.no_failure ∙ inv.no_failure;
+      no_failure = c.in_ok-push.ensures.takes.out.kept ∙ inv.no_failure;
       pushed = (
         inv.pushed.0 ++ view c.row-item.result ∷ [],
         pushed_more view c.args.rows.now c.loop-row.row-index c.row-item.result inv.pushed.0 c.loop-row-test.true c.row-item.is inv.pushed.1,
@@ -79,7 +79,7 @@ returns-in_err-push-clause-write_failed g c = λ wrote.
     let inv = c.loop-row.invariant in
     let p = err_from_is_err_and c.from_residual.result c.from_residual.ensures.1 in
     let why = rw (p.1, p.2) at wrote in
-    let rose : g.W.Sink.failures c.loop-row.writer.out < g.W.Sink.failures c.push.new.self.out = c.in_err-push.ensures.takes.write_failed why in
+    let rose : g.W.Sink.failures c.push.new.self.out ≡ g.W.Sink.failures c.loop-row.writer.out + 1 = c.in_err-push.ensures.takes.out.failed why in
     let same = inv.no_failure in
     omega (arith, rose, same)
 

@@ -1,8 +1,9 @@
-use Rattle.std.proofs.Common.{◌≡◌, ◌∙◌, ◌<◌, [], Err, ap, arith}
+use Rattle.std.proofs.Common.{◌≡◌, ◌∙◌, ◌<◌, ◌+◌, [], Err, ap, arith}
 use Rattle.orc_values.specs.Views.{views}
 use Rattle.orc_file_writer.specs.Progress.{progress}
+use Rattle.orc_tail.specs.declared.fault.FileFault.TheVariants.{WriteFailed}
 use Rattle.orc_theorems.proofs.ReadLemmas.{cut_longer, same_cut}
-use Rattle.orc_theorems.proofs.RefusalLemmas.{finish_fault, same_write_fault}
+use Rattle.orc_theorems.proofs.RefusalLemmas.{failures_rose, finish_fault, same_write_fault}
 use Rattle.orc_theorems.proofs.StepLemmas.{either_more}
 use Rattle.orc_theorems.proofs.written_files_calls.write_to.Goals as goal
 use Rattle.std.proofs.lemmas.Result.{IfOk-weaker, IfErr-weaker}
@@ -57,21 +58,24 @@ returns-in-Ok-push_rows-clause-refused g c =
     c.finish.ensures.refused c.finish.ensures.failed c.finish.ensures.long)
 
 pub returns-in-Err-clause-write_failed : goal.returns-in-Err-clause-write_failed
-returns-in-Err-clause-write_failed g c = c.in-Err.ensures.write_failed
+returns-in-Err-clause-write_failed g c = λ wrote.
+    let failures = g.W.Sink.failures in
+    let rose : failures c.in-Err.refused.1 ≡ failures c.args.out + 1 = c.in-Err.ensures.out.failed (ap Err wrote) in
+    omega (arith, rose)
 
 pub returns-in-Err-push_rows-clause-write_failed : goal.returns-in-Err-push_rows-clause-write_failed
 returns-in-Err-push_rows-clause-write_failed g c = λ wrote.
     let failures = g.W.Sink.failures in
     let rose : failures c.in-Ok.writer.out < failures c.push_rows.new.writer.out = c.in-Err-push_rows.ensures.write_failed (ap Err wrote) in
     let back : failures c.into_out.result ≡ failures c.push_rows.new.writer.out = ap failures c.into_out.ensures in
-    let made : failures c.in-Ok.writer.out ≡ failures c.args.out = c.in-Ok.ensures.no_failure in
+    let made : failures c.in-Ok.writer.out ≡ failures c.args.out = c.in-Ok.ensures.out.kept in
     omega (arith, rose, back, made)
 
 pub returns-in-Ok-push_rows-clause-write_failed : goal.returns-in-Ok-push_rows-clause-write_failed
 returns-in-Ok-push_rows-clause-write_failed g c =
     let failures = g.W.Sink.failures in
     let pushed : failures c.push_rows.new.writer.out ≡ failures c.in-Ok.writer.out = c.in-Ok-push_rows.ensures.no_failure in
-    let made : failures c.in-Ok.writer.out ≡ failures c.args.out = c.in-Ok.ensures.no_failure in
+    let made : failures c.in-Ok.writer.out ≡ failures c.args.out = c.in-Ok.ensures.out.kept in
     IfErr-weaker c.finish.result _ _ (λ e rose wrote.
     let up : failures c.push_rows.new.writer.out < failures e.1 = rose wrote in
-    omega (arith, up, pushed, made)) c.finish.ensures.write_failed
+    omega (arith, up, pushed, made)) (failures_rose failures WriteFailed (λ done. done.1) c.push_rows.new.writer.out c.finish.result c.finish.ensures.out)
